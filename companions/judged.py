@@ -98,7 +98,9 @@ def judge(wanted: Wanted, reports: Sequence[Report], uncounted: Sequence[str], a
     was first seen, and `uncounted` what doesn't count, each with its reason."""
     mine = of_name(wanted.name, reports)
     if not mine:
-        mine = [it for it in reports if it.name is None and (wanted.is_known or it.kind is Kind.FAILURE)]
+        # What ran no job, or whose jobs can't be had, went well for no job.
+        whole = [it for it in reports if it.name is None and it.kind is not Kind.SUCCESS]
+        mine = [it for it in whole if wanted.is_known or it.kind is Kind.FAILURE]
     if not mine:
         return without_name(wanted, reports, uncounted) if age >= wanted.begins else NOTHING_YET
     for kind in (Kind.FAILURE, Kind.RUNS, Kind.WAITS, Kind.LOST):

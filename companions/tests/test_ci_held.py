@@ -149,6 +149,16 @@ class Held(CiCase):
         self.assertEqual(self.why(7), "the CI says of ci/unit: startup failure, it didn't start")
 
 
+    def test_a_run_that_went_well_without_jobs_is_no_success(self) -> None:
+        """As where its jobs can't be had for a moment: the one that is waited for may have been skipped."""
+        self.known()
+        self.give(self.reply(7, 103))
+        run = self.run_of(7)
+        run.word = "success"
+        self.assertEqual(self.ended(7), "lost")
+        self.assertEqual(self.why(7), "no status ci/unit came within 0.3 s; what came: nothing")
+
+
 class Uncounted(CiCase):
     def test_more_statuses_than_are_read_are_said(self) -> None:
         self.give(self.reply(7, 103))

@@ -119,6 +119,14 @@ class Times(unittest.TestCase):
             self.assertEqual(judged(said(word, name=None, bare=False), known=known).outcome, outcome, word)
         self.assertEqual(judged(said("startup_failure", name=None), said("success")).outcome, "success")
 
+    def test_a_run_without_jobs_is_no_success(self) -> None:
+        """Its job may have been skipped, or its jobs couldn't be had just then."""
+        for known in (True, False):
+            self.assertEqual(judged(said("success", name=None, bare=False), known=known), NOTHING_YET)
+        self.assertEqual(judged(said("success", name=None, bare=False), age=900.0).outcome, "lost")
+        self.assertTrue(judged(said("success", name=None, bare=False), age=900.0, known=False).is_held)
+        self.assertEqual(judged(said("success", name=None), said("startup_failure", name=None)).outcome, "lost")
+
     def test_long_and_strange_names_are_shown_short(self) -> None:
         self.assertEqual(judged(said("success", name="x" * 10000), said("failure", name="a\x1b[31m\nb"), age=900.0).why,
                          f"no status ci/unit came within 900 s; what came: a [31m b, {'x' * 57}...")
