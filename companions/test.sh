@@ -44,9 +44,11 @@ trap 'rm -rf "$work"' EXIT
       echo "companions.tests.day $seed --forge $form"
     done
   done
+  echo "companions.tests.day 1 --forge github --ci"
   for scene in worker-keeps lander-back lander-past worker-hastes unit \
     "adapter-holds --forge gitea" "adapter-fresh --forge github" "adapter-believes --forge gitlab" \
-    "lander-blind --forge gitea" "lander-merges --forge github" "worker-merges --forge gitlab"; do
+    "lander-blind --forge gitea" "lander-merges --forge github" "worker-merges --forge gitlab" \
+    "ci-trusts --forge github" "ci-strays --forge github"; do
     echo "companions.tests.day --turn $scene"
   done
   for file in companions/tests/test_*.py; do

@@ -134,8 +134,11 @@ class Checks:
             if self.developers.is_broken(it.change, it.revision):
                 yield f"{it} is broken"
 
+    # Where the records of builds are whose trees somebody has made, in the companions' folder.
+    records = "worker/*/builds.jsonl"
+
     def ran_by_workers(self) -> list[Ran]:
-        records = [json.loads(line) for file in (self.stage.folder / "companions" / "worker").glob("*/builds.jsonl")
+        records = [json.loads(line) for file in (self.stage.folder / "companions").glob(self.records)
                    for line in file.read_text(encoding="utf-8").splitlines()]
         return [Ran(it["queue"], it["change"], it["revision"], it["job"], it["outcome"] == "success", it["trees"])
                 for it in records if it.get("trees")]
@@ -149,12 +152,16 @@ class Checks:
     def check_trees(self) -> Iterator[str]:
         """Each voting job of a landing passed on just the trees that the landing left, by its worker and by itself."""
         sources = {"no worker noted": self.ran_by_workers(), "no job saw": self.ran_by_jobs()}
+        for landed, job in self.voting():
+            for who, ran in sources.items():
+                is_of_ci = landed.project in self.stage.of_ci and who == "no worker noted"
+                if not is_of_ci and not any(shows(it, landed, job) for it in ran):
+                    yield f"{landed}: {who} that {job} passed on its trees"
+
+    def voting(self) -> Iterator[tuple[Landed, str]]:
+        """Each landing with each of its voting jobs."""
         voting = {it.name: [job for job, votes in it.jobs if votes] for it in self.stage.projects}
-        for landed in self.all():
-            for job in voting[landed.project]:
-                for who, ran in sources.items():
-                    if not any(shows(it, landed, job) for it in ran):
-                        yield f"{landed}: {who} that {job} passed on its trees"
+        yield from ((landed, job) for landed in self.all() for job in voting[landed.project])
 
     def check_determined(self) -> Iterator[str]:
         """A job that ran twice on the same trees came to the same, so that one success is as good as another."""

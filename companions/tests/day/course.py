@@ -10,7 +10,7 @@ from companions.tests.day.checks import Checks, differences
 from companions.tests.day.developers import Developers, Step, late_plan, plan
 from companions.tests.day.keeper import Keeper
 from companions.tests.day.parts import Differs, wait_for
-from companions.tests.day.stage import COMPANIONS, Stage
+from companions.tests.day.stage import Stage
 from companions.tests.day.troubles import Kills, Trouble
 
 
@@ -36,7 +36,7 @@ class Course:
         self.keeper.make()
         self.stage.start("nginx")
         self.stage.start_gate()
-        self.stage.start("follow", *COMPANIONS)
+        self.stage.start("follow", *self.stage.programs)
 
     def is_idle(self) -> bool:
         """Nothing stands in a queue, and each landing is noted and told. Whoever has to help does."""

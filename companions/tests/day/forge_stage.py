@@ -5,7 +5,6 @@ The forge's state is its model, and the repositories are bare ones: whoever push
 from __future__ import annotations
 
 import subprocess
-import sys
 from collections.abc import Callable
 from dataclasses import replace
 from pathlib import Path
@@ -84,8 +83,8 @@ class ForgeStage(Stage):
                 f'secret = "{it.secret}"\nbase = "https://forge/c/"\nlisten = "127.0.0.1:{self.hook_port}"\n'
                 f'compare = {15 * pace}\nlook = {2.5 * pace}\nquiet = {5 * pace}\n')
 
-    def adapter_words(self, settings: str) -> list[str]:
-        return [sys.executable, "-m", "companions.adapter", settings]
+    def modules(self) -> dict[str, list[str]]:
+        return {**super().modules(), "adapter": ["adapter", str(self.folder / "adapter.toml")]}
 
     def begin_forge(self) -> None:
         """From now on branches are looked at, as a forge does by itself."""

@@ -8,7 +8,7 @@ import os
 
 from companions.tests.day.layout import FOLLOWER, PASSWORD, SERVICE, TOOL, pace
 from companions.tests.day.parts import Differs, run
-from companions.tests.day.stage import COMPANIONS, Stage
+from companions.tests.day.stage import Stage
 
 
 class Keeper:
@@ -68,7 +68,7 @@ class Keeper:
         """Repository and companions first, then the gate. The standby has the rest told under the settings before."""
         with self.stage.lock:
             self.stage.add_project(TOOL)
-            self.stage.start(*COMPANIONS)
+            self.stage.start(*self.stage.programs)
             self.stop_following()
             self.stage.kill("gate")
             last = self.stage.gated("deliveries", self.stage.standby).splitlines()[-1:]

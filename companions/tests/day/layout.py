@@ -2,6 +2,7 @@
 from __future__ import annotations
 
 import os
+from collections.abc import Collection
 from dataclasses import dataclass
 from pathlib import Path
 
@@ -82,6 +83,8 @@ sh "$1.sh" || status=$?
 echo "$GATED_QUEUE $GATED_CHANGE $GATED_REVISION $GATED_PROJECT $1 $status$trees" >> "$DAY/witness"
 exit "$status"
 """
+# The status that stands for a job where a CI runs it, and for how many seconds it may run there.
+STATUS, LONG = "ci/{}", 300.0
 # Who knocks at the proxy in which role; the names are those that companions/service/gate.conf knows.
 USERS = {"forge": "forge", "worker": "worker", "people": "watch", "standby": "watch"}
 FOLLOWER = "standby"
@@ -146,11 +149,11 @@ def gate_settings(projects: list[Project]) -> str:
 
 
 def companions_settings(folder: Path, port: int, projects: list[Project], where: str, more: str = "",
-                        evidence: bool = True, beats: int = 0) -> str:
+                        evidence: bool = True, beats: int = 0, of_ci: Collection[str] = ()) -> str:
     """The companions' file; `where` stands before the folder of the repositories in their addresses.
 
     `more` are tables of a day of another kind. Without `evidence` the lander doesn't ask what was tested. The watch
-    hears workers at the port `beats`.
+    hears workers at the port `beats`. The jobs of the projects `of_ci` are a CI's.
     """
     text = f'folder = "{folder}/companions"\n[gate]\nurl = "https://127.0.0.1:{port}"\npause = {pace()}\n'
     for role, user in USERS.items():
@@ -162,8 +165,11 @@ def companions_settings(folder: Path, port: int, projects: list[Project], where:
                  f'repository = "{where}{folder}/repos/{project.home}.git"\nforge = "acme/{project.home}"\n'
                  f'evidence = {str(evidence).lower()}\nland = "{project.land}"\n')
         for job, _ in project.jobs:
-            text += (f'[[project.job]]\nname = "{job}"\ncommand = "DAY={folder} sh {folder}/job {job}"\n'
-                     f'read = ["{folder}/job"]\nwrite = ["{folder}/witness"]\nlimit = {12 + 10 * pace()}\n')
+            command = (f'command = "DAY={folder} sh {folder}/job {job}"\nread = ["{folder}/job"]\n'
+                       f'write = ["{folder}/witness"]\n')
+            status, limit = f'status = "{STATUS.format(job)}"\n', 12 + 10 * pace()
+            runs = f"{status}limit = {LONG}\n" if project.name in of_ci else f"{command}limit = {limit}\n"
+            text += f'[[project.job]]\nname = "{job}"\n{runs}'
     return text
 
 

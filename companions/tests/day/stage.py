@@ -17,7 +17,6 @@ from companions.tests.day.layout import ADAPTER, APP, LIB, PRESS, SITE, Project
 from companions.tests.day.parts import Differs, Part, put, run, wait_for
 
 WORKERS = ("w1", "w2", "w3")
-COMPANIONS = ("lander", *WORKERS, "watch", "adapter")
 
 
 def program() -> Path:
@@ -54,6 +53,9 @@ class Stage:
     Here the repositories are their own forge: their hooks call the adapter, and so does whoever says something.
     """
     first_projects = (LIB, APP, SITE, PRESS)
+    # The companions that run, and the projects whose jobs a CI runs.
+    programs: tuple[str, ...] = ("lander", *WORKERS, "watch", "adapter")
+    of_ci: frozenset[str] = frozenset()
 
     def __init__(self, folder: Path, turned: str | None = None) -> None:
         self.folder, self.turned = folder, turned
@@ -84,22 +86,19 @@ class Stage:
         self.make_parts()
 
     def make_parts(self) -> None:
-        companions, adapter = (str(self.folder / f"{it}.toml") for it in ("companions", "adapter"))
         self.add_part("gate", self.gate_words())
         self.add_part("nginx", ["nginx", "-g", "daemon off;", "-c", str(self.folder / "proxy" / "nginx.conf")])
-        self.add_part("adapter", self.adapter_words(adapter))
-        for name in ("lander", "watch"):
-            self.add_part(name, [sys.executable, "-m", f"companions.{name}", companions])
-        for name in WORKERS:
-            self.add_part(name, [sys.executable, "-m", "companions.worker", companions, name])
-        part = (self.turned or "").partition("-")[0]
-        own = {"lander": {"lander": [companions]}, "adapter": {"adapter": [adapter]},
-               "worker": {it: [companions, it] for it in WORKERS}}
-        for name, words in own.get(part, {}).items():
-            self.add_part(name, [sys.executable, "-m", "companions.tests.day.turned", str(self.turned), *words])
+        self.add_part("adapter", [sys.executable, str(ADAPTER), str(self.folder / "adapter.toml"), "stay"])
+        for name, (module, *words) in self.modules().items():
+            is_turned = (self.turned or "").partition("-")[0] == module
+            program = ["companions.tests.day.turned", str(self.turned)] if is_turned else [f"companions.{module}"]
+            self.add_part(name, [sys.executable, "-m", *program, *words])
 
-    def adapter_words(self, settings: str) -> list[str]:
-        return [sys.executable, str(ADAPTER), settings, "stay"]
+    def modules(self) -> dict[str, list[str]]:
+        """The parts that are modules of the companions: of each the module, and its words."""
+        companions = str(self.folder / "companions.toml")
+        return {"lander": ["lander", companions], "watch": ["watch", companions],
+                **{it: ["worker", companions, it] for it in WORKERS}}
 
     def add_part(self, name: str, words: list[str]) -> None:
         self.parts[name] = Part(name, words, self.folder / "logs" / name, self.environment)
@@ -120,7 +119,7 @@ class Stage:
         for name, (where, more) in self.companions().items():
             # A lander that asks what was tested lands nothing of what that wrong worker tells.
             text = layout.companions_settings(self.folder, self.proxy, self.projects, where, more,
-                                              self.turned != "worker-keeps", self.beats)
+                                              self.turned != "worker-keeps", self.beats, self.of_ci)
             put(self.folder / name, text)
 
     def hooks(self) -> dict[str, str]:
@@ -183,8 +182,12 @@ class Stage:
         """Kills all that runs, jobs of workers among it, which are groups of their own."""
         for part in self.parts.values():
             part.kill()
-        for name in WORKERS:
-            kill_marked(f"GATED_WORKER={self.folder / 'companions' / 'worker' / name}")
+        for it in self.marks():
+            kill_marked(it)
+
+    def marks(self) -> list[str]:
+        """By what in their environment jobs are known."""
+        return [f"GATED_WORKER={self.folder / 'companions' / 'worker' / it}" for it in WORKERS]
 
     def note(self, what: str) -> None:
         """A line for whoever reads what a day left."""

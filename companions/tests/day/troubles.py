@@ -3,8 +3,9 @@ from __future__ import annotations
 
 import random
 import threading
+from collections.abc import Sequence
 
-from companions.tests.day.stage import COMPANIONS, Stage
+from companions.tests.day.stage import Stage
 
 KILLS = 22
 
@@ -37,15 +38,15 @@ class Trouble(threading.Thread):
 
 
 class Kills(Trouble):
-    """Kills one part after another, and starts it again, most often at once."""
+    """Kills one part after another, and starts it again, most often at once. `more` are killed more often."""
 
-    def __init__(self, stage: Stage, chance: random.Random) -> None:
+    def __init__(self, stage: Stage, chance: random.Random, more: Sequence[str] = ()) -> None:
         super().__init__()
-        self.stage, self.chance = stage, chance
+        self.stage, self.chance, self.more = stage, chance, more
 
     def go(self) -> None:
         # Each part is killed at least twice.
-        names = [*COMPANIONS, "gate", "nginx"] * 2
+        names = [*self.stage.programs, "gate", "nginx"] * 2 + [*self.more]
         names += self.chance.choices(names, k=max(0, KILLS - len(names)))
         self.chance.shuffle(names)
         for name in names:

@@ -9,7 +9,7 @@ from dataclasses import replace
 from pathlib import Path
 from typing import Any
 
-from companions import adapter, checks, compared, hooks, keeping, lander, trees, worker
+from companions import adapter, checks, ci, compared, hooks, keeping, lander, statuses, trees, worker
 from companions.forges import Forge, Place
 from companions.gate import Answer, Delivery, Order
 from companions.merging import Parent
@@ -115,6 +115,13 @@ class MergingRepository(Repository):
         return replace(super().parent(commit), squash=None)
 
 
+class StrayingGitHub(statuses.OfGitHub):
+    """Takes whatever a CI has run of a commit for the run's own, of whichever branch it is and whoever began it."""
+
+    def runs(self, repository: str, branch: str, commit: str) -> list[Any]:
+        return list(self.listed(f"{self.forge.repository(repository)}/actions/runs?head_sha={commit}", "workflow_runs"))
+
+
 def land_carelessly(words: list[str]) -> None:
     lander.QueueLander = CarelessLander  # type: ignore[misc]
     lander.Lander(read(Path(words[0]))).run()
@@ -164,11 +171,22 @@ def hold(words: list[str]) -> None:
     adapter.main(words)
 
 
+def trust(words: list[str]) -> None:
+    """Lets the statuses of all accounts count."""
+    statuses.Trusted.why_not = lambda *it: None  # type: ignore[method-assign]
+    ci.main(words)
+
+
+def stray(words: list[str]) -> None:
+    statuses.OF_FORM["github"] = StrayingGitHub
+    ci.main(words)
+
+
 # By the name of the scene that finds it. The part of `unit` is the gate's, which the stage starts.
 TURNED: dict[str, Callable[[list[str]], None]] = {
     "lander-past": land_carelessly, "lander-back": land_carelessly, "worker-keeps": keep, "worker-hastes": hasten,
     "adapter-fresh": draw_fresh, "adapter-believes": believe, "adapter-holds": hold, "lander-blind": land_blindly,
-    "lander-merges": land_merged, "worker-merges": test_merged}
+    "lander-merges": land_merged, "worker-merges": test_merged, "ci-trusts": trust, "ci-strays": stray}
 
 if __name__ == "__main__":
     TURNED[sys.argv[1]](sys.argv[2:])
