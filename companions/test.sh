@@ -13,7 +13,7 @@ cd "$(dirname "$script")/.."
 if [ "${1-}" = --one ]; then
   shift
   name=$(printf '%s' "$*" | tr -c 'a-z0-9' _)
-  if timeout "${PATIENCE:-600}" python3 -m "$@" >"$work/$name.said" 2>&1; then
+  if timeout "${PATIENCE:-1200}" python3 -m "$@" >"$work/$name.said" 2>&1; then
     echo "passed: $*" >"$work/$name.end"
   else
     { echo "FAILED: $*" && tail -n 40 "$work/$name.said"; } >"$work/$name.end"

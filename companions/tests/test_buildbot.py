@@ -44,13 +44,13 @@ class LinesTest(unittest.TestCase):
 class ExampleTest(unittest.TestCase):
     def test_it_ends_well(self) -> None:
         """It compares the branches with what must have landed, and runs companions.evidence."""
-        around = {**os.environ, "GATED": str(PROGRAM), "PATIENCE": "540"}
+        around = {**os.environ, "GATED": str(PROGRAM), "PATIENCE": "1100"}
         run = subprocess.Popen(["bash", EXAMPLE / "run.sh"], env=around, text=True, stdout=subprocess.PIPE,
                                stderr=subprocess.STDOUT)
         # What it has started ends with it.
         self.addCleanup(run.wait)
         self.addCleanup(run.terminate)
-        said, _ = run.communicate(timeout=590)
+        said, _ = run.communicate(timeout=1180)
         self.assertEqual((run.returncode, said.splitlines()[-1:]), (0, ["ok"]), said)
 
 

@@ -69,7 +69,7 @@ class PageTest(unittest.TestCase):
     def test_a_day_to_look_at(self) -> None:
         """The page of a day is there while it is played, and until somebody ends it."""
         program = os.environ.get("GATED", TOP / "crates" / "gated" / "out" / "gated")
-        around = {**os.environ, "GATED": str(program), "SLOW": "0", "PATIENCE": "500"}
+        around = {**os.environ, "GATED": str(program), "SLOW": "0", "PATIENCE": "1000"}
         day = subprocess.Popen(["bash", TOP / "examples" / "gitea" / "run.sh", "--page"], env=around, text=True,
                                stdin=subprocess.PIPE, stdout=subprocess.PIPE, stderr=subprocess.STDOUT)
         # What it has started ends with it.

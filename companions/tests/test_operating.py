@@ -119,7 +119,7 @@ def play(folder: Path, blocks: list[str], checks: str = "checks.py") -> str:
     make_stage(folder, script_of(blocks), checks)
     words = ["unshare", "--mount", "--net", "--pid", "--fork", "--kill-child", "--mount-proc"]
     ran = subprocess.run([*words, "bash", "stage.sh"], cwd=folder, stdin=subprocess.DEVNULL, stdout=subprocess.PIPE,
-                         stderr=subprocess.STDOUT, text=True, errors="replace", timeout=600, check=False)
+                         stderr=subprocess.STDOUT, text=True, errors="replace", timeout=1190, check=False)
     return ran.stdout
 
 

@@ -14,7 +14,7 @@ from companions.tests.test_operating import (FORGED, OF_A_TRIAL, OF_NO_ADAPTER, 
 
 SERVICE = "/usr/local/lib/gated/companions/service"
 # Less than companions/test.sh gives to a test, so that what was printed is shown.
-PATIENCE = int(os.environ.get("PATIENCE", "600")) - 10
+PATIENCE = int(os.environ.get("PATIENCE", "1200")) - 10
 READY = "echo $$ > /run/ready\nexec sleep infinity\n"
 MARK = """
 runuser -u gated-companions -- sqlite3 -cmd '.timeout 20000' /var/lib/gated-companions/adapter/adapter.db \\

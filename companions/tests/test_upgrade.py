@@ -15,7 +15,7 @@ from pathlib import Path
 from companions.tests.test_operating import (OF_FORMER, OF_ITS_START, OF_WAY_BACK, PAGE, TOP, blocks_of, make_stage)
 
 # Less than companions/test.sh gives to a test, so that what was printed is shown.
-PATIENCE = int(os.environ.get("PATIENCE", "600")) - 10
+PATIENCE = int(os.environ.get("PATIENCE", "1200")) - 10
 # The former revision is the one before this file was added: the last one whose tables had no version.
 ADDED = "companions/tables.py"
 # What the former page's machine had beside its commands: repositories that all may write, and a name that leads to it.

@@ -15,7 +15,7 @@ class Differs(Exception):
 
 def patience() -> float:
     """How many seconds a day may wait for one thing: PATIENCE, where the machine is slow."""
-    return float(os.environ.get("PATIENCE", "120"))
+    return float(os.environ.get("PATIENCE", "300"))
 
 
 def wait_for(what: str, is_so: Callable[[], object], pause: float = 0.1) -> None:
