@@ -160,10 +160,13 @@ class ForgeChecks(Checks):
     def check_closed(self) -> Iterator[str]:
         """What landed as one commit is closed, which no forge does, and people are told the commit."""
         for it in self.all():
-            place = self.file.place(it.change)
-            if place is None or self.stage.project(it.project).land != "squash":
+            place, project = self.file.place(it.change), self.stage.project(it.project)
+            if place is None or project.land != "squash":
                 continue
             pull = self.model.pulls[place]
+            if pull.target != project.branch:
+                # People hear what became of it at the branch for which it is meant by now.
+                continue
             if pull.state == "open" and pull.head == it.merged and place not in self.developers.reopened:
                 yield f"{self.name(place)} has landed as one commit, and is open"
             if pull.head == it.merged and it.commit not in self.told(place):
