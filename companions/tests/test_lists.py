@@ -55,7 +55,7 @@ class EachForm(AdapterCase):
         self.compare()
         self.compare()
 
-    @mock.patch.object(Looks, "is_ahead", return_value=False)
+    @mock.patch.object(Looks, "head_of", return_value=b"")
     @mock.patch.object(Looks, "name")
     def test_what_two_hundred_cost_of_which_nothing_has_changed(self, *_: mock.Mock) -> None:
         """What is asked of git doesn't matter here."""

@@ -103,7 +103,7 @@ class EachForm(AdapterCase):
         super().setUp()
         self.model = self.stand_in.model
         self.model.add(LIB, "ada", "bob")
-        self.enterContext(mock.patch.object(Looks, "is_ahead", return_value=False))
+        self.enterContext(mock.patch.object(Looks, "head_of", return_value=b""))
         self.enterContext(mock.patch.object(Looks, "name"))
 
     def start(self) -> None:
