@@ -3,3 +3,4 @@ pub mod Asked
 pub mod Whole
 pub mod Reads
 pub mod Shown
+pub mod Causes

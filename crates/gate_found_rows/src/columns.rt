@@ -1,10 +1,12 @@
 //! One column of a row that a query shows, as a value of the gate.
-ghost use Rattle.std.specs.Prelude.{◌≡◌, ◌<◌, pos, true, length, string_bytes, IsUtf8, IfOk, IfErr, OnErr};
+ghost use Rattle.std.specs.Prelude.{◌≡◌, ◌<◌, ◌≤◌, if◌then◌else◌, pos, true, length, string_bytes, IsUtf8, IfOk};
+ghost use Rattle.std.specs.Prelude.{IfErr, OnErr};
 ghost use Rattle.sqlite.specs.declared.types.Value.TheVariants.{Int, Text};
 ghost use Rattle.sqlite_value.specs.Order.{column};
 ghost use Rattle.gate_types.specs.Forms.{is_change_number, is_drawn_number, is_revision_number};
 ghost use Rattle.gate_types.specs.Names.{is_name, is_path_name};
 ghost use Rattle.gate_schema.specs.Rows.{bit, number_or_null};
+ghost use Rattle.gate_found_rows.specs.Causes.{is_want_of_memory};
 ghost use Rattle.std.specs.Option.{option_map_or};
 
 use gate_book_trait::BookFault;
@@ -39,6 +41,7 @@ pub fn number_if_any_in(row: &Row, at: usize) -> Result<Option<u64>, BookFault>
 /// Whether the column holds 1; `Damaged` where it holds neither 0 nor 1.
 pub fn flag_in(row: &Row, at: usize) -> Result<bool, BookFault>
     ensures ok { (b : _) → column row.now at ≡ Int (pos (bit b)) → IfOk result (λ x. x ≡ b) }
+    ensures form { IfOk result (λ b. column row.now at ≡ Int (pos (bit b))) }
     ensures err { (b : _) → column row.now at ≡ Int (pos (bit b)) → OnErr result ⊥ }
 {
     match row.get_ref(at) {
@@ -50,7 +53,7 @@ pub fn flag_in(row: &Row, at: usize) -> Result<bool, BookFault>
 
 /// `NoMemory` where memory was refused, else `Damaged`.
 fn column_fault(error: &Error) -> BookFault
-    ensures { error.now ≡ Error.SqliteFailure ErrorCode.OutOfMemory → result ≡ BookFault.NoMemory }
+    ensures { result ≡ (if is_want_of_memory error.now then BookFault.NoMemory else BookFault.Damaged) }
 {
     match error {
         Error::SqliteFailure(ErrorCode::OutOfMemory) => BookFault::NoMemory,
@@ -61,6 +64,7 @@ fn column_fault(error: &Error) -> BookFault
 /// A text; `Damaged` where the column holds none in UTF-8, `NoMemory` where memory is refused.
 pub fn text_in(row: &Row, at: usize) -> Result<String, BookFault>
     ensures ok { (t : _) → column row.now at ≡ Text t → IfOk result (λ s. string_bytes s ≡ t) }
+    ensures none { length row.now ≤ at → result ≡ Err BookFault.Damaged }
     ensures err { (t : _) → column row.now at ≡ Text t → at < length row.now → IsUtf8 t →
         IfErr result (λ e. e ≡ BookFault.NoMemory) }
 {

@@ -1,5 +1,5 @@
 //! Values of rows, as parameters of statements.
-ghost use Rattle.std.specs.Prelude.{◌≡◌, ◌<◌, ◌^◌, pos, IfSome};
+ghost use Rattle.std.specs.Prelude.{◌≡◌, ◌<◌, ◌≤◌, ◌^◌, pos, MatchOption};
 ghost use Rattle.sqlite.specs.Value.{owned};
 ghost use Rattle.sqlite.specs.declared.types.Value.TheVariants.{Int, Text, Blob};
 ghost use Rattle.gate_schema.specs.Rows.{bit, number_or_null};
@@ -20,7 +20,7 @@ pub fn number<'a>(n: u64) -> ValueRef<'a>
 
 /// None where a column can't hold the number.
 pub(crate) fn any_number<'a>(n: u64) -> Option<ValueRef<'a>>
-    ensures { IfSome result (λ v. owned v ≡ Int (pos n)) }
+    ensures { MatchOption result (2 ^ 63 ≤ n) (λ v. owned v ≡ Int (pos n)) }
 {
     if n < 9_223_372_036_854_775_808 {
         Some(ValueRef::Int(n as i64))
@@ -31,7 +31,7 @@ pub(crate) fn any_number<'a>(n: u64) -> Option<ValueRef<'a>>
 
 /// A number or NULL; None where a column can't hold the number.
 pub(crate) fn number_if_any<'a>(n: Option<u64>) -> Option<ValueRef<'a>>
-    ensures { IfSome result (λ v. owned v ≡ number_or_null n) }
+    ensures { MatchOption result (MatchOption n ⊥ (λ m. 2 ^ 63 ≤ m)) (λ v. owned v ≡ number_or_null n) }
 {
     match n {
         Some(n) if n < 9_223_372_036_854_775_808 => Some(ValueRef::Int(n as i64)),
@@ -42,7 +42,8 @@ pub(crate) fn number_if_any<'a>(n: Option<u64>) -> Option<ValueRef<'a>>
 
 /// The place of the landing, where it landed; None where a column can't hold that.
 pub(crate) fn landing_place<'a>(verdict: Verdict) -> Option<ValueRef<'a>>
-    ensures { IfSome result (λ v. owned v ≡ number_or_null (landing_place verdict)) }
+    ensures { MatchOption result (MatchOption (landing_place verdict) ⊥ (λ m. 2 ^ 63 ≤ m)) (λ v.
+        owned v ≡ number_or_null (landing_place verdict)) }
 {
     match verdict {
         Verdict::Landed(n) if n < 9_223_372_036_854_775_808 => Some(ValueRef::Int(n as i64)),

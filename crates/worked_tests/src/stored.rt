@@ -12,6 +12,7 @@ mod migrating;
 mod openings;
 mod plans;
 mod rows;
+mod shut;
 mod stops;
 mod tables;
 mod told_again;

@@ -5,6 +5,7 @@ use crate::stored::disks::{Disks, InMemory};
 use crate::stored::histories::all_stops;
 use crate::stored::makings::all_stops_of_making;
 use crate::stored::migrating::each_stop_of_migrating;
+use crate::stored::shut::each_stop_of_writing;
 use sqlite::{Alter, Connection};
 use std::process::Abort;
 
@@ -16,6 +17,7 @@ enum Stopped {
     Histories,
     Adopting,
     Migrating,
+    Writing,
 }
 
 fn stops_over<S: Alter + Drop, D: Disks<Database = Connection<S>>>(
@@ -29,6 +31,7 @@ fn stops_over<S: Alter + Drop, D: Disks<Database = Connection<S>>>(
         Stopped::Histories => all_stops(rt, disks),
         Stopped::Adopting => each_stop_of_adopting(rt, disks),
         Stopped::Migrating => each_stop_of_migrating(rt, disks),
+        Stopped::Writing => each_stop_of_writing(rt, disks),
     }
 }
 
@@ -61,4 +64,9 @@ fn a_stop_leaves_the_settings_before_or_after(rt: HostRuntime) {
 #[test]
 fn a_stop_leaves_the_tables_of_schema_1_or_2(rt: HostRuntime) {
     stops(&rt, Stopped::Migrating);
+}
+
+#[test]
+fn a_failed_disk_is_never_want_of_memory(rt: HostRuntime) {
+    stops(&rt, Stopped::Writing);
 }

@@ -1,6 +1,7 @@
 //! Which ready changes need another, asked of the book over the tables of a file.
 use crate::claims::is;
-use crate::stored::files::{conn_of, gate_in, new_file};
+use crate::settings::config;
+use crate::stored::files::{SETTINGS, gate_in, new_file};
 use crate::stored::tables::empty;
 use crate::talks::goes_on;
 use gate_archive::Archive;
@@ -55,33 +56,42 @@ fn needing<B: Book>(rt: &(impl Abort + AllocGlobal), book: &mut B, needed: u64) 
 }
 
 /// These ready changes need this one.
-fn need<B: Archive>(
-    rt: &(impl Abort + AllocGlobal),
-    gate: &mut Gate<B>,
-    needed: u64,
-    wanted: &str,
-) {
-    let found = needing(rt, &mut gate.book, needed);
+fn need<B: Book>(rt: &(impl Abort + AllocGlobal), book: &mut B, needed: u64, wanted: &str) {
+    let found = needing(rt, book, needed);
     is(rt, found.as_str(), wanted, "who needs a change");
 }
 
-fn tells_who_needs<B: Archive>(rt: &(impl Abort + AllocGlobal), gate: &mut Gate<B>) {
-    goes_on(rt, gate, "three changes wait", THREE_WAIT);
-    need(rt, gate, 101, "1 104\n2 103\n");
-    need(rt, gate, 102, "2 103\n3 106\n");
-    need(rt, gate, 103, "");
-    goes_on(rt, gate, "one of them enters", ONE_ENTERS);
-    need(rt, gate, 101, "2 103\n");
-    need(rt, gate, 102, "2 103\n3 106\n");
+/// A gate over the book goes on by these parts. Gives the book back.
+fn goes_over<B: Archive + Drop>(
+    rt: &(impl Abort + AllocGlobal),
+    book: B,
+    title: &str,
+    parts: &str,
+) -> B {
+    let mut gate = Gate::new(config(rt, SETTINGS), book);
+    goes_on(rt, &mut gate, title, parts);
+    gate.into_book()
+}
+
+fn tells_who_needs<B: Archive + Drop>(rt: &(impl Abort + AllocGlobal), book: B) -> B {
+    let mut book = goes_over(rt, book, "three changes wait", THREE_WAIT);
+    need(rt, &mut book, 101, "1 104\n2 103\n");
+    need(rt, &mut book, 102, "2 103\n3 106\n");
+    need(rt, &mut book, 103, "");
+    let mut book = goes_over(rt, book, "one of them enters", ONE_ENTERS);
+    need(rt, &mut book, 101, "2 103\n");
+    need(rt, &mut book, 102, "2 103\n3 106\n");
+    book
 }
 
 fn tells_over<S: Alter + Drop>(
     rt: &(impl Abort + AllocGlobal),
     conn: Connection<S>,
 ) -> Connection<S> {
-    let mut gate = gate_in(rt, new_file(rt, conn));
-    tells_who_needs(rt, &mut gate);
-    conn_of(gate)
+    let gate = gate_in(rt, new_file(rt, conn));
+    tells_who_needs(rt, gate.into_book())
+        .into_book()
+        .into_conn()
 }
 
 #[test]
