@@ -15,3 +15,4 @@ mod BookLemmas
 mod LiveChangeLemmas
 mod BothLemmas
 mod PartLemmas
+mod NothingLemmas

@@ -6,3 +6,4 @@ pub mod HeldChanges
 pub mod Parts
 pub mod Both
 pub mod Faults
+pub mod Laws

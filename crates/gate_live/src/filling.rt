@@ -1,5 +1,5 @@
 //! Reads the live rows of the book below into memory.
-ghost use Rattle.std.specs.Prelude.{◌≡◌, [], map, option_map, Some, IfErr, IfOk, IfSome};
+ghost use Rattle.std.specs.Prelude.{◌≡◌, [], map, option_map, Some, IfErr, IfOk, IfSome, OnErr};
 ghost use Rattle.std.specs.List.{AllByRecursion};
 ghost use Rattle.gate_types.specs.Tables.{tables};
 ghost use Rattle.gate_types.specs.Keys.{serial_of_item};
@@ -9,7 +9,7 @@ ghost use Rattle.gate_book_trait.specs.Kept.{OfHeld, OfHeldUnder, IsKept};
 ghost use Rattle.gate_book_trait.specs.RowReads.{rows_named};
 ghost use Rattle.gate_live.specs.Live.{live_queue};
 ghost use Rattle.gate_live.specs.Held.{AreKept, IsKeptQueue, IsLiveOf, live_of, queue_of};
-ghost use Rattle.gate_live.specs.Both.{IsKeptUnder};
+ghost use Rattle.gate_live.specs.Both.{HoldsNothing, IsKeptUnder};
 
 use crate::change_reads::read_ready;
 use crate::held::Held;
@@ -127,6 +127,7 @@ impl<B: Book> LiveBook<B> {
     /// a row isn't of its form), or with `NoMemory` if memory is refused.
     pub fn fill(&mut self, config: &Config) -> Result<(), BookFault>
         ensures kept { IsKeptUnder B.IsTrusted B.Holds B.LeavesOneOf config.now self.old self.new }
+        ensures drops { OnErr result (HoldsNothing self.new) }
         ensures fault { IfErr result (MayAnswer B.MayFault) }
     {
         self.live = Live::new(self.alloc);

@@ -21,6 +21,7 @@ mod held_changes;
 mod held_plans;
 mod held_queue;
 mod items;
+pub mod laws;
 mod live;
 mod live_book;
 mod live_changes;

@@ -1,11 +1,12 @@
 //! Reads rows from the book below and holds them in memory.
-ghost use Rattle.std.specs.Prelude.{◌≡◌, ◌≢◌, IfErr};
+ghost use Rattle.std.specs.Prelude.{◌≡◌, ◌≢◌, true, IfErr};
 ghost use Rattle.gate_types.specs.State.{known_change};
 ghost use Rattle.gate_book_trait.specs.Faults.{MayAnswer};
 ghost use Rattle.gate_book_trait.specs.Kept.{OfHeld, IsKept};
 ghost use Rattle.gate_book_trait.specs.Reads as read;
 ghost use Rattle.gate_book_trait.specs.declared.fault.BookFault.TheVariants as fault;
-ghost use Rattle.gate_live.specs.Parts.{Agrees};
+ghost use Rattle.gate_live.specs.Faults.{is_of_store};
+ghost use Rattle.gate_live.specs.Parts.{Agrees, nothing};
 
 use crate::faults::told;
 use crate::live::Live;
@@ -29,6 +30,7 @@ pub(crate) fn read_change<B: Book>(
     ensures agrees { OfHeld B.IsTrusted B.Holds book.old book.new (λ c x. Agrees live.old c x → Agrees live.new c x) }
     ensures kept { IsKept B.IsTrusted B.Holds B.LeavesOneOf book.old book.new }
     ensures fault { IfErr result (MayAnswer B.MayFault) }
+    ensures drops { IfErr result (λ f. is_of_store f ≡ true → live.new ≡ nothing) }
 {
     let found = told(live, alloc, book.change(number))?;
     live.hold_change(&found);
@@ -48,6 +50,7 @@ pub(crate) fn read_plan<B: Book>(
     ensures agrees { OfHeld B.IsTrusted B.Holds book.old book.new (λ c x. Agrees live.old c x → Agrees live.new c x) }
     ensures kept { IsKept B.IsTrusted B.Holds B.LeavesOneOf book.old book.new }
     ensures fault { IfErr result (MayAnswer B.MayFault) }
+    ensures drops { IfErr result (λ f. is_of_store f ≡ true → live.new ≡ nothing) }
 {
     let found = told(live, alloc, book.plan(serial))?;
     live.hold_plan(serial, &found);
@@ -65,6 +68,7 @@ fn hold_plan<B: Book>(
     ensures agrees { OfHeld B.IsTrusted B.Holds book.old book.new (λ c x. Agrees live.old c x → Agrees live.new c x) }
     ensures kept { IsKept B.IsTrusted B.Holds B.LeavesOneOf book.old book.new }
     ensures fault { IfErr result (MayAnswer B.MayFault) }
+    ensures drops { IfErr result (λ f. is_of_store f ≡ true → live.new ≡ nothing) }
 {
     if live.has_plan(serial) {
         return Ok(());
@@ -84,6 +88,7 @@ fn read_plans_of<B: Book>(
     ensures agrees { OfHeld B.IsTrusted B.Holds book.old book.new (λ c x. Agrees live.old c x → Agrees live.new c x) }
     ensures kept { IsKept B.IsTrusted B.Holds B.LeavesOneOf book.old book.new }
     ensures fault { IfErr result (MayAnswer B.MayFault) }
+    ensures drops { IfErr result (λ f. is_of_store f ≡ true → live.new ≡ nothing) }
 {
     for item in items {
         hold_plan(alloc, book, live, item.serial)?;
@@ -109,6 +114,7 @@ pub(crate) fn read_plans_between<B: Book>(
     ensures agrees { OfHeld B.IsTrusted B.Holds book.old book.new (λ c x. Agrees live.old c x → Agrees live.new c x) }
     ensures kept { IsKept B.IsTrusted B.Holds B.LeavesOneOf book.old book.new }
     ensures fault { IfErr result (MayAnswer B.MayFault) }
+    ensures drops { IfErr result (λ f. is_of_store f ≡ true → live.new ≡ nothing) }
 {
     read_plans_of(alloc, book, live, items)?;
     if let Some(found) = live.plans_of(alloc, items) {
@@ -130,6 +136,7 @@ pub(crate) fn read_builds<B: Book>(
     ensures agrees { OfHeld B.IsTrusted B.Holds book.old book.new (λ c x. Agrees live.old c x → Agrees live.new c x) }
     ensures kept { IsKept B.IsTrusted B.Holds B.LeavesOneOf book.old book.new }
     ensures fault { IfErr result (MayAnswer B.MayFault) }
+    ensures drops { IfErr result (λ f. is_of_store f ≡ true → live.new ≡ nothing) }
 {
     let found = told(live, alloc, book.live_builds(serial))?;
     live.hold_builds(alloc, serial, found.as_slice());
@@ -147,6 +154,7 @@ fn hold_builds<B: Book>(
     ensures agrees { OfHeld B.IsTrusted B.Holds book.old book.new (λ c x. Agrees live.old c x → Agrees live.new c x) }
     ensures kept { IsKept B.IsTrusted B.Holds B.LeavesOneOf book.old book.new }
     ensures fault { IfErr result (MayAnswer B.MayFault) }
+    ensures drops { IfErr result (λ f. is_of_store f ≡ true → live.new ≡ nothing) }
 {
     if live.knows(serial) {
         return Ok(());
@@ -166,6 +174,7 @@ fn read_builds_of<B: Book>(
     ensures agrees { OfHeld B.IsTrusted B.Holds book.old book.new (λ c x. Agrees live.old c x → Agrees live.new c x) }
     ensures kept { IsKept B.IsTrusted B.Holds B.LeavesOneOf book.old book.new }
     ensures fault { IfErr result (MayAnswer B.MayFault) }
+    ensures drops { IfErr result (λ f. is_of_store f ≡ true → live.new ≡ nothing) }
 {
     for item in items {
         hold_builds(alloc, book, live, item.serial)?;
@@ -192,6 +201,7 @@ pub(crate) fn read_builds_between<B: Book>(
     ensures agrees { OfHeld B.IsTrusted B.Holds book.old book.new (λ c x. Agrees live.old c x → Agrees live.new c x) }
     ensures kept { IsKept B.IsTrusted B.Holds B.LeavesOneOf book.old book.new }
     ensures fault { IfErr result (MayAnswer B.MayFault) }
+    ensures drops { IfErr result (λ f. is_of_store f ≡ true → live.new ≡ nothing) }
 {
     read_builds_of(alloc, book, live, items)?;
     if let Some(found) = live.builds_of(alloc, items) {

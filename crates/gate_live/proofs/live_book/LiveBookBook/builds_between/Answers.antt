@@ -1,17 +1,14 @@
 use Rattle.std.proofs.Common.{◌∙◌, subst}
 use Rattle.gate_book_trait.specs.Reads as read
-use Rattle.gate_live.proofs.BothLemmas.{both_kept}
+use Rattle.gate_live.proofs.BothLemmas.{both_read}
 use Rattle.gate_live.proofs.live_book.LiveBookBook.builds_between.Goals as goal
 
-pub returns-in-Some-clause-found : goal.returns-in-Some-clause-found
-returns-in-Some-clause-found g c trusted k x held lawful =
-    let agrees = held.agrees lawful in
+pub returns-in-Some-clause-reads : goal.returns-in-Some-clause-reads
+returns-in-Some-clause-reads g c =
+    let done = c.read_builds_between in
+    both_read c.args.self.now (record c.args.self.now { book = done.new.book; live = done.new.live }) _ done.result
+    done.ensures.kept done.ensures.agrees done.ensures.fault
+    (λ trusted k x holds lawful agrees.
     let items = c.as_slice.ensures ∙ c.in-Some.ensures k x agrees in
-    subst (λ is. read.Answers (read.builds_of_items x.state is) c.read_builds_between.result) items
-    (c.read_builds_between.ensures.found trusted k x held.below lawful agrees items)
-
-pub returns-in-Some-clause-kept : goal.returns-in-Some-clause-kept
-returns-in-Some-clause-kept g c =
-    let old = c.args.self.now in
-    both_kept old (record old { book = c.read_builds_between.new.book; live = c.read_builds_between.new.live })
-    c.read_builds_between.ensures.kept c.read_builds_between.ensures.agrees
+    subst (λ is. read.Answers (read.builds_of_items x.state is) done.result) items
+    (done.ensures.found trusted k x holds lawful agrees items))
