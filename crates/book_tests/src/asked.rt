@@ -2,7 +2,8 @@
 //!
 //! `put` does the edits behind it, `keeps 9` keeps nine replies, and `settings` gives the book these settings: one in
 //! memory adopts them, one that holds what is live reads that anew. All else is asked: `sizes core` tells the window of
-//! a queue and how many items and landings it has, `before core 2` how many landings have a lower serial,
+//! a queue and how many items and landings it has, as `window core`, `length core` and `landings core` do one by one,
+//! `before core 2` how many landings have a lower serial,
 //! `first core 0 1` the first items above a serial, no more than one, and `needing core 101 0` those above a serial
 //! whose changes need 101; `enters 101` tells the ready changes that need it. `plans core 0 4` and `builds core 0 4`
 //! tell of the items above a serial up to another. `history core 20` is written, with a `|` at the end of each line,
@@ -128,6 +129,16 @@ fn size_of<B: Book>(rt: &impl Abort, book: &mut B, told: &mut String, queue: &Na
     counted(rt, told, book.landing_count(queue));
 }
 
+/// One of these sizes.
+fn asks_size<B: Book>(rt: &impl Abort, book: &mut B, told: &mut String, queue: &Name, asked: &str) {
+    match asked {
+        "window" => found(rt, told, book.window(queue)),
+        "length" => counted(rt, told, book.item_count(queue)),
+        "landings" => counted(rt, told, book.landing_count(queue)),
+        _ => panic!(rt; "nothing is asked: {asked}"),
+    }
+}
+
 /// What is asked of a queue by its name.
 fn asks_queue<B: Book>(
     rt: &(impl Abort + AllocGlobal),
@@ -168,17 +179,21 @@ fn asks_queue<B: Book>(
                 book.builds_between(queue, above, serial(rt, words)),
             );
         }
-        _ => panic!(rt; "nothing is asked: {asked}"),
+        _ => asks_size(rt, book, told, queue, asked),
     }
 }
 
 fn counters<B: Book>(rt: &impl Abort, book: &mut B, told: &mut String) {
-    let drawn = book.counters().expect(rt, "counters");
-    drawn.approval.tell(rt, told);
-    push(rt, told, " ");
-    drawn.build.tell(rt, told);
-    push(rt, told, " ");
-    drawn.order.tell(rt, told);
+    match book.counters() {
+        Ok(drawn) => {
+            drawn.approval.tell(rt, told);
+            push(rt, told, " ");
+            drawn.build.tell(rt, told);
+            push(rt, told, " ");
+            drawn.order.tell(rt, told);
+        }
+        Err(fault) => push(rt, told, fault_word(fault)),
+    }
 }
 
 /// What is asked by a number, or of all.

@@ -1,4 +1,4 @@
-//! A book that counts what it is asked for, and can refuse edits, or a read, once.
+//! A book that counts what it is asked for, can refuse edits, or a read, once, and can lack a change.
 use gate_archive::{Archive, BuildSummary, FeedFault, LeftItem};
 use gate_book::{Book, BookFault, HistoryFault, QueuedItem};
 use gate_types::edits::Edit;
@@ -11,13 +11,14 @@ use std::io::Write;
 use std::process::Abort;
 
 /// Answers as the book in it; the first edits are refused by a fault, if one is set, and so is the read of this number,
-/// from 1, by the store.
+/// from 1, by the store. If a change is set as lacking, reading it finds none.
 #[derive(Drop)]
 pub(crate) struct Counting<B> {
     pub(crate) book: B,
     pub(crate) reads: u32,
     pub(crate) refuses: Option<BookFault>,
     pub(crate) fails_at: Option<u32>,
+    pub(crate) lacks: Option<u64>,
 }
 
 /// The number of the read that is refused, if one is.
@@ -40,6 +41,7 @@ pub(crate) fn refusing<B: Book>(rt: &impl Abort, book: B, refuses: &str) -> Coun
         reads: 0,
         refuses,
         fails_at,
+        lacks: None,
     }
 }
 
@@ -73,6 +75,9 @@ impl<B: Book> Book for Counting<B> {
 
     fn change(&mut self, number: ChangeNo) -> Result<Option<Change>, BookFault> {
         self.count()?;
+        if self.lacks == Some(number.get()) {
+            return Ok(None);
+        }
         self.book.change(number)
     }
 

@@ -12,111 +12,95 @@ use gate_types::numbers::Serial;
 use gate_types::tap::Tap;
 use std::process::Abort;
 
-/// Seven reads fill the book, and the eighth fails. Four more tell the counters, and the three sizes of a queue.
-const SCENES: &str = "
-# the store fails at a delivery
-live over first, refuses read 8
+/// Seven reads below fill a book with all that is live.
+const ALL: &str = "live over first";
 
-settings core/10/1 lib@core = taken
-kept 9 = the store fails
-counters = 0 0 4
-sizes core = 5 2 1
+const FILLED: &str = "settings core/10/1 lib@core = taken";
 
-below, asked 12
+/// The book below lacks a queue of the settings: then no queue is held, nor the counters.
+const NO_QUEUE: &str = "settings core/10/1 web/4/2 lib@core = taken";
 
-# the store fails at a change
-live over first, refuses read 8
+/// The book below lacks a change of its own ready list: then no change is held.
+const NO_CHANGE: &str = "live over first, lacks 103";
 
-settings core/10/1 lib@core = taken
+/// Reads that a book with all that is live asks below.
+const OF_ALL: &str = "kept 9 = the store fails
 change 101 = the store fails
-counters = 0 0 4
-sizes core = 5 2 1
-
-below, asked 12
-
-# the store fails at a plan
-live over first, refuses read 8
-
-settings core/10/1 lib@core = taken
 plan 2 = the store fails
-counters = 0 0 4
-sizes core = 5 2 1
-
-below, asked 12
-
-# the store fails at live builds
-live over first, refuses read 8
-
-settings core/10/1 lib@core = taken
 live 2 = the store fails
-counters = 0 0 4
-sizes core = 5 2 1
-
-below, asked 12
-
-# the store fails at the changes that need one
-live over first, refuses read 8
-
-settings core/10/1 lib@core = taken
 needing core 101 0 = the store fails
-counters = 0 0 4
-sizes core = 5 2 1
-
-below, asked 12
-
-# the store fails at plans
-live over first, refuses read 8
-
-settings core/10/1 lib@core = taken
 plans core 0 4 = the store fails
-counters = 0 0 4
-sizes core = 5 2 1
-
-below, asked 12
-
-# the store fails at builds
-live over first, refuses read 8
-
-settings core/10/1 lib@core = taken
 builds core 0 4 = the store fails
-counters = 0 0 4
-sizes core = 5 2 1
-
-below, asked 12
-
-# the store fails at a build
-live over first, refuses read 8
-
-settings core/10/1 lib@core = taken
 build 1 = the store fails
-counters = 0 0 4
-sizes core = 5 2 1
-
-below, asked 12
-
-# the store fails at landings before an item
-live over first, refuses read 8
-
-settings core/10/1 lib@core = taken
 before core 2 = the store fails
-counters = 0 0 4
+history core 99 = , unavailable";
+
+/// Those that it asks below once no queue is held.
+const OF_QUEUES: &str = "window core = the store fails
+length core = the store fails
+landings core = the store fails
+reports core = the store fails
+items core = the store fails
+item 4 = the store fails
+queued 102 = the store fails
+next core 2 = the store fails
+last core 4 = the store fails
+first core 0 1 = the store fails
+needing core 101 0 = the store fails
+plans core 0 4 = the store fails
+builds core 0 4 = the store fails
+counters = the store fails";
+
+/// Those that it asks below once no change is held.
+const OF_CHANGES: &str = "ready = the store fails
+approval 103 = the store fails
+enters 101 = the store fails";
+
+/// Five reads, of each part that may be held.
+const ASKED_BELOW: &str = "counters = 0 0 4
 sizes core = 5 2 1
+ready = 7 103
 
-below, asked 12
+below, asked ";
 
-# the store fails at a history
-live over first, refuses read 8
-
-settings core/10/1 lib@core = taken
-history core 99 = , unavailable
-counters = 0 0 4
-sizes core = 5 2 1
-
-below, asked 12";
+/// Plays a scene for each of these lines: `held` is answered from memory, then the line's read, the eighth below, fails.
+/// The five reads behind it are asked below, whatever was held.
+fn forgets_at_each(
+    rt: &(impl Abort + AllocGlobal),
+    over: &str,
+    filled: &str,
+    held: &str,
+    lines: &str,
+) {
+    for line in lines.lines() {
+        let scene = format!(in rt.alloc();
+            "\n# the store fails at {line}\n{over}, refuses read 8\n\n{filled}\n{held}\n{line}\n{ASKED_BELOW}13"
+        ).expect(rt, "memory");
+        plays(rt, scene.as_str());
+    }
+}
 
 #[test]
 fn nothing_is_held_behind_a_read_at_which_the_store_fails(rt: HostRuntime) {
-    plays(&rt, SCENES);
+    let queues = "sizes core = 5 2 1";
+    let changes = "ready = 7 103";
+    forgets_at_each(&rt, ALL, FILLED, queues, OF_ALL);
+    forgets_at_each(&rt, ALL, NO_QUEUE, changes, OF_QUEUES);
+    forgets_at_each(&rt, NO_CHANGE, FILLED, queues, OF_CHANGES);
+}
+
+/// The book is filled, and filled again, where the store fails at each of the seven reads in turn.
+#[test]
+fn nothing_is_held_once_the_store_has_failed_at_what_is_live(rt: HostRuntime) {
+    for read in 8..15u32 {
+        let asked = read + 5;
+        let scene = format!(in rt.alloc();
+            "\n# filled again\n{ALL}, refuses read {read}\n\n{FILLED}\n\
+            settings core/10/1 lib@core = the store fails\n{ASKED_BELOW}{asked}"
+        )
+        .expect(&rt, "memory");
+        plays(&rt, scene.as_str());
+    }
 }
 
 /// Whether what is past can't be asked for: what left, its builds, their number, a history, or deliveries.

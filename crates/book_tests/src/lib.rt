@@ -20,6 +20,8 @@ mod live_changes;
 #[cfg(test)]
 mod live_items;
 #[cfg(test)]
+mod long_polls;
+#[cfg(test)]
 mod memory;
 #[cfg(test)]
 mod needing;

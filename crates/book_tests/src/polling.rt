@@ -4,12 +4,15 @@
 //! between two. The first line of a part says what is asked of the gate, and how often the book is asked for it:
 //! `status` and `orders`, or `>` and a delivery, behind `nothing: `, `once: `, `more: `, which is more than once, or
 //! `some: `. Below stands the answer. `made: status` is a status that is made by reads, and said again without any.
-//! `is idle` stands for a worker that is told by reads that there is no build, and then, under other ids, by looking up
-//! the id alone. `a read fails` and `edits fail` are faults of the store, at a build that is asked for and at the
-//! next edits.
+//! `it shows nothing` stands for the status and the orders of an empty gate that are made, and `is idle` for a worker
+//! that is told by reads that there is no build, and then, under other ids, by looking up the id alone.
+//!
+//! What the book refuses is planned before the gate is made, as nobody edits a gate's book. `refuses edits by the
+//! store` below a title is said of the first edits. At `a read fails` a build is asked for, and the store fails: that
+//! read has the number behind those that the parts before it take of a book that refuses nothing.
 use crate::claims::{holds, is};
 use crate::counting::{Counting, refusing};
-use gate_book::{Book, BookFault, MemBook};
+use gate_book::{Book, MemBook};
 use gate_config::read;
 use gate_core::Gate;
 use gate_types::deliveries::{Answer, Refusal};
@@ -43,15 +46,17 @@ once: > {"id":"0d000000-0000-4000-8000-000000000002","kind":"take","worker":"w2"
 once: > {"id":"0d000000-0000-4000-8000-000000000001","kind":"take","worker":"w1"}
 {"code":"E12","error":"idle"}"#;
 
-const SCENES: &str = r#"
-# an idle gate is asked for nothing
-
-made: status
+const NOTHING: &str = "made: status
 queue web window 2 landed 0
 end
 
 made: orders
-[]
+[]";
+
+const SCENES: &str = r#"
+# an idle gate is asked for nothing
+
+it shows nothing
 
 is idle
 
@@ -139,37 +144,29 @@ made: status
 queue web window 3 landed 1
 end
 
-# after a fault nothing is said unasked, so that a gate whose file is shut says so to each poll
+# after a read that failed nothing is said unasked, so that a gate whose file is shut says so to each poll
 
-made: status
-queue web window 2 landed 0
-end
-
-made: orders
-[]
-
-a read fails
-
-made: status
-queue web window 2 landed 0
-end
-
-made: orders
-[]
+it shows nothing
 
 is idle
 
-edits fail
+a read fails
+
+it shows nothing
+
+is idle
+
+# after edits that failed nothing is said unasked
+refuses edits by the store
+
+it shows nothing
+
+is idle
 
 some: > {"id":"0b000000-0000-4000-8000-000000000001","kind":"revision","change":101,"project":"site","revision":1,"message":""}
 {"code":"E15","error":"unavailable"}
 
-made: status
-queue web window 2 landed 0
-end
-
-made: orders
-[]
+it shows nothing
 
 is idle"#;
 
@@ -191,20 +188,20 @@ fn shows(rt: &impl Abort, text: Result<String, Refusal>, wanted: &str, end: &str
     is(rt, text, wanted, "a poll");
 }
 
-/// What is asked of the gate has this answer. Gives how often the book was asked.
-fn asks<B: Book>(
+/// What is asked of the gate has this answer. Gives how often the book was asked for it.
+pub(crate) fn asks<B: Book>(
     rt: &(impl Abort + AllocGlobal),
     gate: &mut Gate<Counting<B>>,
     asked: &str,
     wanted: &str,
 ) -> u32 {
-    gate.book.reads = 0;
+    let before = gate.book().reads;
     match asked {
         "status" => shows(rt, gate.status(rt.alloc()), wanted, "\n"),
         "orders" => shows(rt, gate.orders(rt.alloc()), wanted, ""),
         _ => tells(rt, gate, asked.strip_prefix("> ").expect(rt, asked), wanted),
     }
-    gate.book.reads
+    gate.book().reads.saturating_sub(before)
 }
 
 /// What is asked has this answer, and the book is asked for it so often.
@@ -230,18 +227,6 @@ fn polls<B: Book>(
     }
 }
 
-/// The store fails at the next read, at which a build is asked for.
-fn a_read_fails<B: Book>(
-    rt: &(impl Abort + AllocGlobal),
-    gate: &mut Gate<Counting<B>>,
-    title: &str,
-) {
-    let number = BuildNo::new(1).expect(rt, title);
-    gate.book.fails_at = Some(gate.book.reads.saturating_add(1));
-    let found = gate.build(rt.alloc(), number);
-    holds(rt, matches!(found, Err(Refusal::Unavailable)), title);
-}
-
 /// The gate goes on by these parts.
 fn goes_on<B: Book>(
     rt: &(impl Abort + AllocGlobal),
@@ -250,29 +235,66 @@ fn goes_on<B: Book>(
     parts: &str,
 ) {
     for part in parts.trim_end().split("\n\n") {
-        match part {
-            "a read fails" => a_read_fails(rt, gate, title),
-            "edits fail" => gate.book.refuses = Some(BookFault::Store),
-            _ => polls(rt, gate, title, part),
-        }
+        polls(rt, gate, title, part);
     }
 }
 
-fn plays_scene(rt: &(impl Abort + AllocGlobal), title: &str, parts: &str) {
-    let config = read(rt.alloc(), SETTINGS.as_bytes()).expect(rt, "settings");
+/// The store fails at the read of a build that is asked for.
+fn a_read_fails<B: Book>(rt: &(impl Abort + AllocGlobal), gate: &mut Gate<B>) {
+    let number = BuildNo::new(1).expect(rt, "a number");
+    let found = gate.build(rt.alloc(), number);
+    holds(rt, matches!(found, Err(Refusal::Unavailable)), "a fault");
+}
+
+/// A gate under these settings, over a book that refuses this once.
+pub(crate) fn gate_refusing(
+    rt: &(impl Abort + AllocGlobal),
+    settings: &str,
+    refuses: &str,
+) -> Gate<Counting<MemBook>> {
+    let config = read(rt.alloc(), settings.as_bytes()).expect(rt, settings);
     let book = MemBook::new(rt.alloc(), &config).expect(rt, "memory");
-    let mut gate = Gate::new(config, refusing(rt, book, ""));
-    let parts = parts
-        .replace(rt.alloc(), "is idle", IDLE)
-        .expect(rt, "memory");
-    goes_on(rt, &mut gate, title, parts.as_str());
+    Gate::new(config, refusing(rt, book, refuses))
+}
+
+/// The read behind those that these parts take.
+fn read_behind(rt: &(impl Abort + AllocGlobal), title: &str, parts: &str) -> String {
+    let mut gate = gate_refusing(rt, SETTINGS, "");
+    goes_on(rt, &mut gate, title, parts);
+    let behind = gate.book().reads.saturating_add(1);
+    format!(in rt.alloc(); "read {behind}").expect(rt, "memory")
+}
+
+/// A gate goes on by some parts, finds that a read fails, and goes on by those behind.
+fn plays_around_a_fault(rt: &(impl Abort + AllocGlobal), title: &str, front: &str, back: &str) {
+    let refuses = read_behind(rt, title, front);
+    let mut gate = gate_refusing(rt, SETTINGS, refuses.as_str());
+    goes_on(rt, &mut gate, title, front);
+    a_read_fails(rt, &mut gate);
+    goes_on(rt, &mut gate, title, back);
+}
+
+/// The parts, written out.
+fn written_out(rt: &(impl Abort + AllocGlobal), parts: &str) -> String {
+    let parts = parts.replace(rt.alloc(), "it shows nothing", NOTHING);
+    let parts = parts.expect(rt, "memory");
+    let parts = parts.replace(rt.alloc(), "is idle", IDLE);
+    parts.expect(rt, "memory")
+}
+
+fn plays_scene(rt: &(impl Abort + AllocGlobal), head: &str, parts: &str) {
+    let (title, refuses) = head.split_once("\nrefuses ").unwrap_or((head, ""));
+    match parts.split_once("\n\na read fails\n\n") {
+        Some((front, back)) => plays_around_a_fault(rt, title, front, back),
+        None => goes_on(rt, &mut gate_refusing(rt, SETTINGS, refuses), title, parts),
+    }
 }
 
 #[test]
 fn a_gate_that_is_polled_asks_for_nothing(rt: HostRuntime) {
     let scenes = SCENES.strip_prefix("\n# ").expect(&rt, "a title");
     for scene in scenes.split("\n# ") {
-        let (title, parts) = scene.split_once("\n\n").expect(&rt, scene);
-        plays_scene(&rt, title, parts);
+        let (head, parts) = scene.split_once("\n\n").expect(&rt, scene);
+        plays_scene(&rt, head, written_out(&rt, parts).as_str());
     }
 }

@@ -2,8 +2,8 @@
 //!
 //! A scene has a title behind `# `, then its book: `memory` is one in memory, under the settings `KEPT` and with these
 //! counters drawn: approval 7, build 8, order 9. `live over first` is one that holds what is live over a book in memory
-//! with the edits `first`, which has a single queue; behind `, refuses` stands what the book below refuses once. Behind
-//! an empty line come parts with an empty line between two. A part has lines as `item 3 = none`: what the book is told
+//! with the edits `first`, which has a single queue; behind `, lacks` stands a change that reads of the book below don't
+//! find, and behind `, refuses` what it refuses once. Behind an empty line come parts with an empty line between two. A part has lines as `item 3 = none`: what the book is told
 //! or asked, as `asked` says, and its answer; behind `twice` they come twice. At `below, asked 7` the book that holds
 //! what is live ends: the one below was asked so often, and goes on alone by the parts behind.
 use crate::asked::{Takes, answer};
@@ -98,10 +98,13 @@ fn plays_over<B: Takes + Drop>(
     over: &str,
     parts: &str,
 ) {
-    let (put, refuses) = over.split_once(", refuses ").unwrap_or((over, ""));
+    let (over, refuses) = over.split_once(", refuses ").unwrap_or((over, ""));
+    let (put, lacks) = over.split_once(", lacks ").unwrap_or((over, ""));
     let (parts, below) = parts.split_once("\n\nbelow, asked ").expect(rt, title);
     holds(rt, book.apply(edits(rt, put).as_slice()).is_ok(), title);
-    let below_then = lives(rt, refusing(rt, book, refuses), title, parts);
+    let mut refusing = refusing(rt, book, refuses);
+    refusing.lacks = lacks.parse::<u64>().ok();
+    let below_then = lives(rt, refusing, title, parts);
     goes_on_below(rt, below_then, title, below);
 }
 

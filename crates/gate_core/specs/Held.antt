@@ -5,27 +5,27 @@ use Rattle.gate_types.specs.Once.{Content}
 use Rattle.gate_types.specs.Forms.{IsLawfulContent}
 use Rattle.gate_types.specs.Gated.{Gated}
 use Rattle.gate_core.specs.declared.gate.Gate.{Gate}
-use Rattle.gate_core.specs.Holding.{GateHolds}
+use Rattle.gate_core.specs.Holding.{GateHolds, book_of, settings_of}
 use Rattle.gate_core.specs.Left.{LeavesBy}
 use Rattle.gate_core.specs.Replies.{Cut, Replayed, Told, calls_of_lines}
 
 -- a gate over a book holds a lawful content, and is this gate
 pub record IsOver {B : Type 0} (holds : B → Settings → Content → Type 0) (gate : Gate B) (g : Gated) : Type 0 where
-  pub settings : g.settings ≡ gate.config
+  pub settings : g.settings ≡ settings_of gate
   pub held : GateHolds holds gate g.content
-  pub lawful : IsLawfulContent gate.config g.content
+  pub lawful : IsLawfulContent (settings_of gate) g.content
 
 -- a call leads from each gate that this one was to one that it is then, if the book is trusted as the call ends
 abbrev pub Passes : {B : Type 0} → (B → Type 0) → (B → Settings → Content → Type 0) → Gate B → Gate B →
     (Gated → Gated → Type 0) → Type 0
 Passes trusted holds old new P =
-    trusted new.book → (g : Gated) → IsOver holds old g → (after : Gated) × IsOver holds new after × P g after
+    trusted (book_of new) → (g : Gated) → IsOver holds old g → (after : Gated) × IsOver holds new after × P g after
 
 -- a call that answers: its settings stay, and the book was trusted if it is
 pub record Goes {B : Type 0} (trusted : B → Type 0) (holds : B → Settings → Content → Type 0) (old new : Gate B)
     (P : Gated → Gated → Type 0) : Type 0 where
-  pub settings : new.config ≡ old.config
-  pub trusted_before : trusted new.book → trusted old.book
+  pub settings : settings_of new ≡ settings_of old
+  pub trusted_before : trusted (book_of new) → trusted (book_of old)
   pub passes : Passes trusted holds old new P
 
 -- a gate over a book answers a line by a text, and a crash leaves what the line's call leaves

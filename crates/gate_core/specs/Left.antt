@@ -5,6 +5,7 @@ use Rattle.gate_types.specs.Once.{Content, Call, acts, next_content}
 use Rattle.gate_types.specs.Gated.{Gated}
 use Rattle.gate_core.specs.Answered.{spared}
 use Rattle.gate_core.specs.declared.gate.Gate.{Gate}
+use Rattle.gate_core.specs.Holding.{book_of}
 
 -- a crash leaves one of these contents after a call, if it left one of `ys` before: only the next content if the call
 -- acts, one content more after `unavailable`, and the same otherwise
@@ -21,5 +22,5 @@ left_after c x (k ∷ ks) ys = left_after c (next_content c x k) ks (left_by c x
 -- these calls of a gate change what a crash leaves of its book as stated
 abbrev pub LeavesBy : {B : Type 0} → (B → Settings → List Content → Type 0) → Gate B → Gate B → Gated → List Call →
     Type 0
-LeavesBy leaves old new g ks = (ys : List Content) → leaves old.book g.settings ys →
-    leaves new.book g.settings (left_after g.settings g.content ks ys)
+LeavesBy leaves old new g ks = (ys : List Content) → leaves (book_of old) g.settings ys →
+    leaves (book_of new) g.settings (left_after g.settings g.content ks ys)

@@ -25,6 +25,14 @@ pub record KeepsNothing (r : Recent) : Type 0 where
   pub orders : r.orders ≡ None
   pub idle : r.idle ≡ false
 
+-- all but the status, which was made anew, is kept as before
+abbrev pub KeepsButStatus : Recent → Recent → Type 0
+KeepsButStatus old new = (new.orders ≡ old.orders) × (new.idle ≡ old.idle)
+
+-- all but the orders
+abbrev pub KeepsButOrders : Recent → Recent → Type 0
+KeepsButOrders old new = (new.status ≡ old.status) × (new.idle ≡ old.idle)
+
 -- what a refused read leaves of it: nothing after a fault of the book, else all
 abbrev pub AfterRefusal : Recent → Recent → Refusal → Type 0
 AfterRefusal old new refusal.Unavailable = KeepsNothing new

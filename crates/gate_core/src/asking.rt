@@ -3,13 +3,12 @@ ghost use Rattle.std.specs.Prelude.{◌≡◌, ◌⊎◌, [], false, None, Some,
 ghost use Rattle.std.specs.Prelude.{string_bytes};
 ghost use Rattle.gate_types.specs.State.{known_change};
 ghost use Rattle.gate_types.specs.Tap.{has_failed};
-ghost use Rattle.gate_book_trait.specs.Kept.{OfHeldUnder};
 ghost use Rattle.gate_book_trait.specs.Writes.{Stops};
 ghost use Rattle.gate_archive.specs.ChangeText.{change_text};
 ghost use Rattle.gate_archive.specs.ItemText.{item_text};
 ghost use Rattle.gate_archive.specs.RunningBuilds.{running_text};
 ghost use Rattle.gate_archive.specs.Writes.{WritesHistoryFrom, WritesFeed, StopsFeed, WritesFeedText, StopsText};
-ghost use Rattle.gate_core.specs.Holding.{IsKeptGate};
+ghost use Rattle.gate_core.specs.Holding.{IsKeptGate, OfBook, recent_of, settings_of};
 ghost use Rattle.gate_core.specs.Recent.{AfterFault, AfterFeedFault, AfterRefusal};
 
 use crate::gate::Gate;
@@ -34,17 +33,17 @@ impl<B: Archive> Gate<B> {
     /// `UnknownChange` where no revision of it was accepted; `Unavailable` where the book gave a fault or memory was
     /// refused.
     pub fn change(&mut self, alloc: Global, number: ChangeNo) -> Result<String, Refusal>
-        ensures answered { OfHeldUnder B.IsTrusted B.Holds self.old.book self.new.book self.old.config (λ x.
+        ensures answered { OfBook B.IsTrusted B.Holds self.old self.new (λ x.
             MatchResult result
-            (λ text. option_map (change_text self.old.config x.state) (known_change x.state number)
+            (λ text. option_map (change_text (settings_of self.old) x.state) (known_change x.state number)
             ≡ Some (string_bytes text))
             (λ r. (r ≡ Refusal.Unavailable)
             ⊎ ((r ≡ Refusal.UnknownChange) × (known_change x.state number ≡ None)))) }
         ensures refused { IfErr result (λ r. (r ≡ Refusal.Unavailable) ⊎ (r ≡ Refusal.UnknownChange)) }
-        ensures recent { MatchResult result (λ _. self.new.recent ≡ self.old.recent)
-            (AfterRefusal self.old.recent self.new.recent) }
+        ensures recent { MatchResult result (λ _. recent_of self.new ≡ recent_of self.old)
+            (AfterRefusal (recent_of self.old) (recent_of self.new)) }
         ensures kept { IsKeptGate B.IsTrusted B.Holds B.LeavesOneOf self.old self.new }
-        ensures settings { self.new.config ≡ self.old.config }
+        ensures settings { settings_of self.new ≡ settings_of self.old }
     {
         match change_text(alloc, &mut self.book, &self.config, number) {
             Ok(Some(text)) => Ok(text.into_string()),
@@ -62,13 +61,13 @@ impl<B: Archive> Gate<B> {
     ///
     /// `Unavailable` where the book gave a fault or memory was refused.
     pub fn item(&mut self, alloc: Global, serial: Serial) -> Result<Option<String>, Refusal>
-        ensures text { OfHeldUnder B.IsTrusted B.Holds self.old.book self.new.book self.old.config (λ x.
-            IfOk result (λ found. option_map string_bytes found ≡ item_text self.old.config x.state serial)) }
+        ensures text { OfBook B.IsTrusted B.Holds self.old self.new (λ x.
+            IfOk result (λ found. option_map string_bytes found ≡ item_text (settings_of self.old) x.state serial)) }
         ensures unavailable { IfErr result (λ r. r ≡ Refusal.Unavailable) }
-        ensures recent { MatchResult result (λ _. self.new.recent ≡ self.old.recent)
-            (AfterRefusal self.old.recent self.new.recent) }
+        ensures recent { MatchResult result (λ _. recent_of self.new ≡ recent_of self.old)
+            (AfterRefusal (recent_of self.old) (recent_of self.new)) }
         ensures kept { IsKeptGate B.IsTrusted B.Holds B.LeavesOneOf self.old self.new }
-        ensures settings { self.new.config ≡ self.old.config }
+        ensures settings { settings_of self.new ≡ settings_of self.old }
     {
         match item_text(alloc, &mut self.book, &self.config, serial) {
             Ok(Some(text)) => Ok(Some(text.into_string())),
@@ -86,13 +85,13 @@ impl<B: Archive> Gate<B> {
     ///
     /// `Unavailable` where the book gave a fault or memory was refused.
     pub fn running(&mut self, alloc: Global) -> Result<String, Refusal>
-        ensures text { OfHeldUnder B.IsTrusted B.Holds self.old.book self.new.book self.old.config (λ x.
+        ensures text { OfBook B.IsTrusted B.Holds self.old self.new (λ x.
             IfOk result (λ text. string_bytes text ≡ running_text x.state)) }
         ensures unavailable { IfErr result (λ r. r ≡ Refusal.Unavailable) }
-        ensures recent { MatchResult result (λ _. self.new.recent ≡ self.old.recent)
-            (AfterRefusal self.old.recent self.new.recent) }
+        ensures recent { MatchResult result (λ _. recent_of self.new ≡ recent_of self.old)
+            (AfterRefusal (recent_of self.old) (recent_of self.new)) }
         ensures kept { IsKeptGate B.IsTrusted B.Holds B.LeavesOneOf self.old self.new }
-        ensures settings { self.new.config ≡ self.old.config }
+        ensures settings { settings_of self.new ≡ settings_of self.old }
     {
         match running_text(alloc, &mut self.book, &self.config) {
             Ok(text) => Ok(text.into_string()),
@@ -118,13 +117,13 @@ impl<B: Archive> Gate<B> {
         w: &mut Tap<W>,
     ) -> Result<(), HistoryFault>
         requires { has_failed w.old ≡ false }
-        ensures written { OfHeldUnder B.IsTrusted B.Holds self.old.book self.new.book self.old.config (λ x.
+        ensures written { OfBook B.IsTrusted B.Holds self.old self.new (λ x.
             WritesHistoryFrom x.state queue.now from front.now W.contents w.old w.new result) }
         ensures stops { Stops w.old w.new result }
-        ensures recent { MatchResult result (λ _. self.new.recent ≡ self.old.recent)
-            (AfterFault self.old.recent self.new.recent) }
+        ensures recent { MatchResult result (λ _. recent_of self.new ≡ recent_of self.old)
+            (AfterFault (recent_of self.old) (recent_of self.new)) }
         ensures kept { IsKeptGate B.IsTrusted B.Holds B.LeavesOneOf self.old self.new }
-        ensures settings { self.new.config ≡ self.old.config }
+        ensures settings { settings_of self.new ≡ settings_of self.old }
     {
         let told = self.book.history_from(queue, from, front, w);
         self.recent.heed_history(&told);
@@ -147,13 +146,13 @@ impl<B: Archive> Gate<B> {
         w: &mut Tap<W>,
     ) -> Result<(), FeedFault>
         requires { has_failed w.old ≡ false }
-        ensures written { OfHeldUnder B.IsTrusted B.Holds self.old.book self.new.book self.old.config (λ x.
+        ensures written { OfBook B.IsTrusted B.Holds self.old self.new (λ x.
             WritesFeedText x.kept after front.now W.contents w.old w.new result) }
         ensures stops { StopsText w.old w.new result }
-        ensures recent { MatchResult result (λ _. self.new.recent ≡ self.old.recent)
-            (AfterFeedFault self.old.recent self.new.recent) }
+        ensures recent { MatchResult result (λ _. recent_of self.new ≡ recent_of self.old)
+            (AfterFeedFault (recent_of self.old) (recent_of self.new)) }
         ensures kept { IsKeptGate B.IsTrusted B.Holds B.LeavesOneOf self.old self.new }
-        ensures settings { self.new.config ≡ self.old.config }
+        ensures settings { settings_of self.new ≡ settings_of self.old }
     {
         let told = write_feed(alloc, &mut self.book, after, front, w);
         self.recent.heed_feed(&told);
@@ -172,13 +171,13 @@ impl<B: Archive> Gate<B> {
         w: &mut Tap<W>,
     ) -> Result<u64, FeedFault>
         requires { has_failed w.old ≡ false }
-        ensures written { OfHeldUnder B.IsTrusted B.Holds self.old.book self.new.book self.old.config (λ x.
+        ensures written { OfBook B.IsTrusted B.Holds self.old self.new (λ x.
             WritesFeed x.kept after 18446744073709551615 [] W.contents w.old w.new result) }
         ensures stops { StopsFeed w.old w.new result }
-        ensures recent { MatchResult result (λ _. self.new.recent ≡ self.old.recent)
-            (AfterFeedFault self.old.recent self.new.recent) }
+        ensures recent { MatchResult result (λ _. recent_of self.new ≡ recent_of self.old)
+            (AfterFeedFault (recent_of self.old) (recent_of self.new)) }
         ensures kept { IsKeptGate B.IsTrusted B.Holds B.LeavesOneOf self.old self.new }
-        ensures settings { self.new.config ≡ self.old.config }
+        ensures settings { settings_of self.new ≡ settings_of self.old }
     {
         let told = self.book.deliveries(after, ALL, b"", w);
         self.recent.heed_feed(&told);

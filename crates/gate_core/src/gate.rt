@@ -7,12 +7,11 @@ ghost use Rattle.gate_types.specs.OrderList.{order_list_text};
 ghost use Rattle.gate_types.specs.Status.{status_text};
 ghost use Rattle.gate_types.specs.Step.{build_of};
 ghost use Rattle.gate_types.specs.Tap.{has_failed};
-ghost use Rattle.gate_book_trait.specs.Kept.{OfHeldUnder};
 ghost use Rattle.gate_book_trait.specs.Writes.{WritesHistory, Stops};
 ghost use Rattle.gate_core.specs.Answered.{Answered, call};
-ghost use Rattle.gate_core.specs.Holding.{GateHolds, OfGate, IsKeptGate};
+ghost use Rattle.gate_core.specs.Holding.{GateHolds, OfGate, OfBook, IsKeptGate, book_of, recent_of, settings_of};
 ghost use Rattle.gate_core.specs.Landing.{LandsRightly};
-ghost use Rattle.gate_core.specs.Recent.{AfterFault, AfterRefusal, KeepsNothing};
+ghost use Rattle.gate_core.specs.Recent.{AfterFault, AfterRefusal, KeepsButOrders, KeepsButStatus, KeepsNothing};
 
 use crate::delivering::deliver;
 use crate::recent::Recent;
@@ -32,21 +31,31 @@ use std::io::Write;
 /// file is shut says so to each poll.
 #[derive(Drop)]
 pub struct Gate<B> {
-    pub config: Config,
-    pub book: B,
+    pub(crate) config: Config,
+    pub(crate) book: B,
     pub(crate) recent: Recent,
 }
 
 impl<B> Gate<B> {
+    /// The settings that it goes by.
+    pub fn config(&self) -> &Config
+        ensures { result.now ≡ settings_of self.now }
+    {
+        &self.config
+    }
+
+    /// Its book, which only the gate may edit: what it said is said again until a call of its own changes something.
+    pub fn book(&self) -> &B
+        ensures { result.now ≡ book_of self.now }
+    {
+        &self.book
+    }
+
     /// Gives the book back.
     pub fn into_book(self) -> B
-        ensures { result ≡ self.book }
+        ensures { result ≡ book_of self }
     {
-        let Gate {
-            config: _,
-            book,
-            recent: _,
-        } = self;
+        let Gate { book, .. } = self;
         book
     }
 }
@@ -54,8 +63,8 @@ impl<B> Gate<B> {
 impl<B: Book> Gate<B> {
     /// A gate under these settings, over a book that was made under them.
     pub fn new(config: Config, book: B) -> Gate<B>
-        ensures config { result.config ≡ config }
-        ensures book { result.book ≡ book }
+        ensures config { settings_of result ≡ config }
+        ensures book { book_of result ≡ book }
         ensures holds { (x : Content) → B.Holds book config x → GateHolds B.Holds result x }
     {
         Gate {
@@ -70,15 +79,15 @@ impl<B: Book> Gate<B> {
     /// changed; `unavailable` comes only where the book gave a fault or memory was refused.
     pub fn deliver(&mut self, alloc: Global, id: Id, delivery: Delivery) -> Answer
         ensures answered { OfGate B.IsTrusted B.Holds self.old self.new (λ x.
-            Answered self.old.config x (call id delivery (is_unavailable result)) result
-            (GateHolds B.Holds self.new) (B.LeavesOneOf self.old.book self.old.config)
-            (B.LeavesOneOf self.new.book self.old.config)) }
+            Answered (settings_of self.old) x (call id delivery (is_unavailable result)) result
+            (GateHolds B.Holds self.new) (B.LeavesOneOf (book_of self.old) (settings_of self.old))
+            (B.LeavesOneOf (book_of self.new) (settings_of self.old))) }
         ensures lands { OfGate B.IsTrusted B.Holds self.old self.new (λ x.
-            LandsRightly self.old.config x (call id delivery (is_unavailable result)) result) }
+            LandsRightly (settings_of self.old) x (call id delivery (is_unavailable result)) result) }
         ensures forgets { OfGate B.IsTrusted B.Holds self.old self.new (λ _.
-            is_unavailable result ≡ true → KeepsNothing self.new.recent) }
-        ensures trusted { B.IsTrusted self.new.book → B.IsTrusted self.old.book }
-        ensures settings { self.new.config ≡ self.old.config }
+            is_unavailable result ≡ true → KeepsNothing (recent_of self.new)) }
+        ensures trusted { B.IsTrusted (book_of self.new) → B.IsTrusted (book_of self.old) }
+        ensures settings { settings_of self.new ≡ settings_of self.old }
     {
         let config = &self.config;
         config.show_sound();
@@ -101,13 +110,12 @@ impl<B: Book> Gate<B> {
     /// `Unavailable` where the book gave a fault or memory was refused.
     pub fn orders(&mut self, alloc: Global) -> Result<String, Refusal>
         ensures text { OfGate B.IsTrusted B.Holds self.old self.new (λ x.
-            IfOk result (λ text. string_bytes text ≡ order_list_text self.old.config x.state)) }
+            IfOk result (λ text. string_bytes text ≡ order_list_text (settings_of self.old) x.state)) }
         ensures unavailable { IfErr result (λ r. r ≡ Refusal.Unavailable) }
-        ensures forgets { IfErr result (λ _. KeepsNothing self.new.recent) }
-        ensures keeps { OnOk result ((self.new.recent.status ≡ self.old.recent.status)
-            × (self.new.recent.idle ≡ self.old.recent.idle)) }
+        ensures forgets { IfErr result (λ _. KeepsNothing (recent_of self.new)) }
+        ensures keeps { OnOk result (KeepsButOrders (recent_of self.old) (recent_of self.new)) }
         ensures kept { IsKeptGate B.IsTrusted B.Holds B.LeavesOneOf self.old self.new }
-        ensures settings { self.new.config ≡ self.old.config }
+        ensures settings { settings_of self.new ≡ settings_of self.old }
     {
         if let Some(text) = self.recent.orders() {
             return Ok(text.into_string());
@@ -131,14 +139,14 @@ impl<B: Book> Gate<B> {
     /// `UnknownBuild` where there is none of this number; `Unavailable` where the book gave a fault or memory was
     /// refused.
     pub fn build(&mut self, alloc: Global, number: BuildNo) -> Result<String, Refusal>
-        ensures answered { OfHeldUnder B.IsTrusted B.Holds self.old.book self.new.book self.old.config (λ x.
+        ensures answered { OfBook B.IsTrusted B.Holds self.old self.new (λ x.
             MatchResult result (λ text. option_map build_text (build_of x.state number) ≡ Some (string_bytes text))
             (λ r. (r ≡ Refusal.Unavailable) ⊎ ((r ≡ Refusal.UnknownBuild) × (build_of x.state number ≡ None)))) }
         ensures refused { IfErr result (λ r. (r ≡ Refusal.Unavailable) ⊎ (r ≡ Refusal.UnknownBuild)) }
-        ensures recent { MatchResult result (λ _. self.new.recent ≡ self.old.recent)
-            (AfterRefusal self.old.recent self.new.recent) }
+        ensures recent { MatchResult result (λ _. recent_of self.new ≡ recent_of self.old)
+            (AfterRefusal (recent_of self.old) (recent_of self.new)) }
         ensures kept { IsKeptGate B.IsTrusted B.Holds B.LeavesOneOf self.old self.new }
-        ensures settings { self.new.config ≡ self.old.config }
+        ensures settings { settings_of self.new ≡ settings_of self.old }
     {
         match build_text(alloc, &mut self.book, number) {
             Ok(Some(text)) => Ok(text.into_string()),
@@ -157,13 +165,12 @@ impl<B: Book> Gate<B> {
     /// `Unavailable` where the book gave a fault or memory was refused.
     pub fn status(&mut self, alloc: Global) -> Result<String, Refusal>
         ensures text { OfGate B.IsTrusted B.Holds self.old self.new (λ x.
-            IfOk result (λ text. string_bytes text ≡ status_text self.old.config x.state)) }
+            IfOk result (λ text. string_bytes text ≡ status_text (settings_of self.old) x.state)) }
         ensures unavailable { IfErr result (λ r. r ≡ Refusal.Unavailable) }
-        ensures forgets { IfErr result (λ _. KeepsNothing self.new.recent) }
-        ensures keeps { OnOk result ((self.new.recent.orders ≡ self.old.recent.orders)
-            × (self.new.recent.idle ≡ self.old.recent.idle)) }
+        ensures forgets { IfErr result (λ _. KeepsNothing (recent_of self.new)) }
+        ensures keeps { OnOk result (KeepsButStatus (recent_of self.old) (recent_of self.new)) }
         ensures kept { IsKeptGate B.IsTrusted B.Holds B.LeavesOneOf self.old self.new }
-        ensures settings { self.new.config ≡ self.old.config }
+        ensures settings { settings_of self.new ≡ settings_of self.old }
     {
         if let Some(text) = self.recent.status() {
             return Ok(text.into_string());
@@ -194,13 +201,13 @@ impl<B: Book> Gate<B> {
         w: &mut Tap<W>,
     ) -> Result<(), HistoryFault>
         requires { has_failed w.old ≡ false }
-        ensures written { OfHeldUnder B.IsTrusted B.Holds self.old.book self.new.book self.old.config (λ x.
+        ensures written { OfBook B.IsTrusted B.Holds self.old self.new (λ x.
             WritesHistory x.state queue.now front.now W.contents w.old w.new result) }
         ensures stops { Stops w.old w.new result }
-        ensures recent { MatchResult result (λ _. self.new.recent ≡ self.old.recent)
-            (AfterFault self.old.recent self.new.recent) }
+        ensures recent { MatchResult result (λ _. recent_of self.new ≡ recent_of self.old)
+            (AfterFault (recent_of self.old) (recent_of self.new)) }
         ensures kept { IsKeptGate B.IsTrusted B.Holds B.LeavesOneOf self.old self.new }
-        ensures settings { self.new.config ≡ self.old.config }
+        ensures settings { settings_of self.new ≡ settings_of self.old }
     {
         let told = self.book.history(queue, front, w);
         self.recent.heed_history(&told);

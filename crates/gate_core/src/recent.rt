@@ -7,7 +7,8 @@ ghost use Rattle.gate_types.specs.Settings.{Settings};
 ghost use Rattle.gate_types.specs.State.{State};
 ghost use Rattle.gate_types.specs.Status.{status_text};
 ghost use Rattle.gate_types.specs.Step.{step, refused};
-ghost use Rattle.gate_core.specs.Recent.{AfterFault, AfterFeedFault, IsTrueOf, KeepsNothing};
+ghost use Rattle.gate_core.specs.Recent.{AfterFault, AfterFeedFault, IsTrueOf, KeepsButOrders, KeepsButStatus};
+ghost use Rattle.gate_core.specs.Recent.{KeepsNothing};
 
 use gate_archive::FeedFault;
 use gate_book_trait::HistoryFault;
@@ -96,7 +97,7 @@ impl Recent {
     pub(crate) fn keep_status(&mut self, text: &Text)
         ensures holds { (c : Settings) (x : Content) → text.now ≡ status_text c x.state → IsTrueOf self.old c x →
             IsTrueOf self.new c x }
-        ensures rest { (self.new.orders ≡ self.old.orders) × (self.new.idle ≡ self.old.idle) }
+        ensures rest { KeepsButStatus self.old self.new }
     {
         if let Ok(copy) = text.copy() {
             self.status = Some(copy);
@@ -115,7 +116,7 @@ impl Recent {
     pub(crate) fn keep_orders(&mut self, text: &Text)
         ensures holds { (c : Settings) (x : Content) → text.now ≡ order_list_text c x.state → IsTrueOf self.old c x →
             IsTrueOf self.new c x }
-        ensures rest { (self.new.status ≡ self.old.status) × (self.new.idle ≡ self.old.idle) }
+        ensures rest { KeepsButOrders self.old self.new }
     {
         if let Ok(copy) = text.copy() {
             self.orders = Some(copy);

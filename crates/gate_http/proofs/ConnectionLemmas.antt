@@ -24,6 +24,7 @@ use Rattle.gate_http.specs.declared.request_fault.RequestFault.{RequestFault}
 use Rattle.gate_http.specs.declared.request_fault.RequestFault.TheVariants as fault
 use Rattle.gate_core.specs.declared.gate.Gate.{Gate}
 use Rattle.gate_core.specs.Held.{Goes}
+use Rattle.gate_core.specs.Holding.{book_of}
 use Rattle.gate_core.specs.Left.{LeavesBy}
 use Rattle.gate_core.specs.Replies.{call_read}
 use Rattle.gate_core.proofs.LeftLemmas.{leaves_call, leaves_more_calls, leaves_none}
@@ -83,7 +84,7 @@ module _ {B : Type 0} (trusted : B → Type 0) (holds : B → Settings → Conte
 
   -- what a crash leaves after at most one call
   called_leaves : (old new : Gate B) (g : Gated) (ks : List Call) → length ks ≤ 1 →
-      CrashLeaves g.settings g.content ks (leaves old.book g.settings) (leaves new.book g.settings) →
+      CrashLeaves g.settings g.content ks (leaves (book_of old) g.settings) (leaves (book_of new) g.settings) →
       LeavesBy leaves old new g ks
   called_leaves old new g [] few h = h
   called_leaves old new g (k ∷ []) few h = leaves_call leaves old new g k h
@@ -105,8 +106,8 @@ module _ {B : Type 0} (trusted : B → Type 0) (holds : B → Settings → Conte
           (
             record { calls = calls; few = few; stands = p.2.stands },
             called_leaves old new g calls few
-                (subst (λ c. CrashLeaves c g.content calls (leaves old.book c) (leaves new.book c)) (sym over.settings)
-                (s.crash t g.content over.held over.lawful)),
+                (subst (λ c. CrashLeaves c g.content calls (leaves (book_of old) c) (leaves (book_of new) c))
+                (sym over.settings) (s.crash t g.content over.held over.lawful)),
           ),
         );
   }
@@ -124,8 +125,8 @@ module _ {B : Type 0} (trusted : B → Type 0) (holds : B → Settings → Conte
           p.1,
           (
             record { calls = []; few = omega arith; stands = p.2.2.stands },
-            subst (λ c. CrashLeaves c g.content [] (leaves old.book c) (leaves new.book c)) (sym over.settings)
-                (s.crash t g.content over.held over.lawful),
+            subst (λ c. CrashLeaves c g.content [] (leaves (book_of old) c) (leaves (book_of new) c))
+                (sym over.settings) (s.crash t g.content over.held over.lawful),
           ),
         );
   }

@@ -5,9 +5,8 @@ use Rattle.gate_types.specs.declared.tap.Tap.{Tap}
 use Rattle.gate_types.specs.Tap.{Took, TookFront}
 use Rattle.gate_types.specs.Settings.{Settings}
 use Rattle.gate_types.specs.Once.{Content}
-use Rattle.gate_book_trait.specs.Kept.{OfHeldUnder}
 use Rattle.gate_core.specs.declared.gate.Gate.{Gate}
-use Rattle.gate_core.specs.Holding.{IsKeptGate}
+use Rattle.gate_core.specs.Holding.{IsKeptGate, OfBook, settings_of}
 use Rattle.gate_http.specs.declared.respond.StreamFault.{StreamFault}
 use Rattle.gate_http.specs.declared.respond.StreamFault.TheVariants as stopped
 use Rattle.gate_http.specs.Asked.{Streamed}
@@ -18,11 +17,11 @@ use Rattle.gate_http.proofs.ServingLemmas.{recalls}
 
 module _ {B W : Type 0} (trusted : B → Type 0) (holds : B → Settings → Content → Type 0)
     (leaves : B → Settings → List Content → Type 0) (held : W → Option (List ℕ)) (old new : Gate B)
-    (wanted : Streamed) (front : List ℕ) (w after : Tap W) (settings : new.config ≡ old.config)
+    (wanted : Streamed) (front : List ℕ) (w after : Tap W) (settings : settings_of new ≡ settings_of old)
     (kept : IsKeptGate trusted holds leaves old new) where
   -- this was written
   abbrev AreWritten : Result (Unit {0}) StreamFault → Type 0
-  AreWritten r = OfHeldUnder trusted holds old.book new.book old.config (λ x.
+  AreWritten r = OfBook trusted holds old new (λ x.
       WritesLines x wanted front held w after r)
 
   pub recalls_whole : (r : Result (Unit {0}) StreamFault) → AreWritten r

@@ -14,12 +14,11 @@ use Rattle.gate_types.specs.Forms.{IsLawfulContent}
 use Rattle.gate_types.specs.Gated.{Gated}
 use Rattle.gate_wire.specs.declared.door.Door.{Door}
 use Rattle.gate_wire.specs.Reading.{says}
-use Rattle.gate_book_trait.specs.Kept.{OfHeldUnder}
 use Rattle.gate_core.specs.Answered.{Answered, call, spared}
 use Rattle.gate_core.specs.declared.gate.Gate.{Gate}
 use Rattle.gate_core.specs.Replies.{call_read}
 use Rattle.gate_core.specs.Held.{IsOver, Goes}
-use Rattle.gate_core.specs.Holding.{GateHolds, OfGate, IsKeptGate}
+use Rattle.gate_core.specs.Holding.{GateHolds, OfGate, OfBook, IsKeptGate, book_of, settings_of}
 use Rattle.gate_core.proofs.HoldingLemmas.{over_kept}
 use Rattle.gate_http.specs.declared.respond.Told.{Told}
 use Rattle.gate_http.specs.declared.respond.Told.TheVariants as told
@@ -32,7 +31,7 @@ use Rattle.gate_http.specs.Way.{Way, silence, refusal as refusing, question, str
 use Rattle.gate_http.specs.Exchange.{IsRead, OfRead, Comes, Recalled, recited, missing, failed, OfLines}
 use Rattle.gate_http.specs.Answer.{answer_read, answer_to, calls_asked, gate_after, calls_made, served_as, answer}
 use Rattle.gate_http.specs.Answer.{Answers, stream_of, stream_status, is_503}
-use Rattle.gate_http.specs.Serving.{CrashLeaves, Responds, Recalls, Serves, ServesStream, ServesAs}
+use Rattle.gate_http.specs.Serving.{CrashLeaves, GateLeaves, Responds, Recalls, Serves, ServesStream, ServesAs}
 
 -- an answer by its mark
 abbrev marked : Bool → Answer → Answer
@@ -82,7 +81,7 @@ module _ {B : Type 0} (trusted : B → Type 0) (holds : B → Settings → Conte
   -- a gate that was handed a call
   after_call : (c : Settings) (gate : Gate B) (left leaving : List Content → Type 0) (g : Gated) (id : Id)
       (d : Delivery)
-      (a : Answer) → gate.config ≡ c → g.settings ≡ c
+      (a : Answer) → settings_of gate ≡ c → g.settings ≡ c
       → Answered c g.content (call id d (is_unavailable a)) a (GateHolds holds gate) left leaving
       → (after : Gated) × IsOver holds gate after
       × ((a ≡ marked (is_unavailable a) (answer_read g (Ok (id, d))))
@@ -108,9 +107,7 @@ module _ {B : Type 0} (trusted : B → Type 0) (holds : B → Settings → Conte
   RespondsRead old r a new =
       Goes trusted holds old new (λ g after.
       (a ≡ marked (is_unavailable a) (answer_read g r)) × (after ≡ gate_after g (call_read (is_unavailable a) r)))
-      × OfGate trusted holds old new (λ x.
-      CrashLeaves old.config x (call_read (is_unavailable a) r) (leaves old.book old.config)
-      (leaves new.book old.config))
+      × OfGate trusted holds old new (λ x. GateLeaves leaves old new x (call_read (is_unavailable a) r))
 
   -- the same, by the delivery's bytes
   by_bytes : (old new : Gate B) (door : Door) (body : List ℕ) (r : Result (Id × Delivery) Refusal) (a : Answer)
@@ -131,18 +128,21 @@ module _ {B : Type 0} (trusted : B → Type 0) (holds : B → Settings → Conte
 
   -- to a delivery that was handed to its book
   pub responds_delivered : (old new : Gate B) (door : Door) (body : List ℕ) (id : Id) (d : Delivery) (a : Answer)
-      → says door body ≡ Ok (id, d) → new.config ≡ old.config → (trusted new.book → trusted old.book)
+      → says door body ≡ Ok (id, d) → settings_of new ≡ settings_of old
+      → (trusted (book_of new) → trusted (book_of old))
       → OfGate trusted holds old new (λ x.
-      Answered old.config x (call id d (is_unavailable a)) a (GateHolds holds new) (leaves old.book old.config)
-      (leaves new.book old.config))
+      Answered (settings_of old) x (call id d (is_unavailable a)) a (GateHolds holds new)
+      (leaves (book_of old) (settings_of old)) (leaves (book_of new) (settings_of old)))
       → Responds trusted holds leaves old (delivery door body) (told.Answer a) new
   responds_delivered old new door body id d a said settings before answered =
       by_bytes old new door body (Ok (id, d)) a said (
         record {
           settings = settings;
           trusted_before = before;
-          passes = λ t g over. after_call old.config new (leaves old.book old.config) (leaves new.book old.config) g
-              id d a settings over.settings (answered t g.content over.held over.lawful);
+          passes = λ t g over.
+              let c = settings_of old in
+              after_call c new (leaves (book_of old) c) (leaves (book_of new) c) g id d a settings over.settings
+              (answered t g.content over.held over.lawful);
         },
         λ t x held lawful.
             (answered t x held lawful).crash,
@@ -170,13 +170,15 @@ module _ {B : Type 0} (trusted : B → Type 0) (holds : B → Settings → Conte
 
   -- to a delivery that is refused before it is handed on, by whether that is for want of memory
   refused_by : (old : Gate B) (door : Door) (body : List ℕ) (e : Refusal) (u : Bool)
-      → ((c : Settings) (ys : List Content) (y : Content) → leaves old.book c ys → leaves old.book c (ys ++ y ∷ []))
+      → ((c : Settings) (ys : List Content) (y : Content) → leaves (book_of old) c ys →
+      leaves (book_of old) c (ys ++ y ∷ []))
       → is_unavailable (Refused e) ≡ u → (e ≢ refusal.Unavailable → says door body ≡ Err e)
       → Responds trusted holds leaves old (delivery door body) (told.Answer (Refused e)) old
   refused_by old door body refusal.Unavailable true more is said =
       by_bytes old old door body (says door body) (Refused refusal.Unavailable) refl (
         stands old _ (λ g. (refl, unmoved g (says door body))),
-        λ t x held lawful. survives old.config x (says door body) (leaves old.book old.config) (more old.config),
+        λ t x held lawful.
+            let c = settings_of old in survives c x (says door body) (leaves (book_of old) c) (more c),
       )
   refused_by old door body e false more is said =
       let other : e ≢ refusal.Unavailable = λ same. true≢false (sym (ap (λ q. is_unavailable (Refused q)) same) ∙ is) in
@@ -186,7 +188,8 @@ module _ {B : Type 0} (trusted : B → Type 0) (holds : B → Settings → Conte
   refused_by old door body e true more is said = absurd (true≢false (sym is))
 
   pub responds_refused : (old : Gate B) (door : Door) (body : List ℕ) (e : Refusal)
-      → ((c : Settings) (ys : List Content) (y : Content) → leaves old.book c ys → leaves old.book c (ys ++ y ∷ []))
+      → ((c : Settings) (ys : List Content) (y : Content) → leaves (book_of old) c ys →
+      leaves (book_of old) c (ys ++ y ∷ []))
       → (e ≢ refusal.Unavailable → says door body ≡ Err e)
       → Responds trusted holds leaves old (delivery door body) (told.Answer (Refused e)) old
   responds_refused old door body e more said =
@@ -198,8 +201,8 @@ module _ {B : Type 0} (trusted : B → Type 0) (holds : B → Settings → Conte
 
   -- to what only reads
   pub responds_kept : (old new : Gate B) (asked : Asked) (t : Told) → ((u : Bool) → calls_asked u asked ≡ [])
-      → new.config ≡ old.config → IsKeptGate trusted holds leaves old new
-      → OfGate trusted holds old new (λ x. IsTold old.config x asked t)
+      → settings_of new ≡ settings_of old → IsKeptGate trusted holds leaves old new
+      → OfGate trusted holds old new (λ x. IsTold (settings_of old) x asked t)
       → Responds trusted holds leaves old asked t new
   responds_kept old new asked a none settings kept answered =
       let u = is_failure a in
@@ -218,8 +221,8 @@ module _ {B : Type 0} (trusted : B → Type 0) (holds : B → Settings → Conte
           );
         };
         crash = λ t x held lawful.
-            subst (λ ks. CrashLeaves old.config x ks (leaves old.book old.config) (leaves new.book old.config))
-            (sym (none u)) (kept.book.leaves_on t old.config x held.book);
+            subst (λ ks. GateLeaves leaves old new x ks)
+            (sym (none u)) (kept.book.leaves_on t (settings_of old) x held.book);
       }
 
   -- to what is told without the book
@@ -230,7 +233,7 @@ module _ {B : Type 0} (trusted : B → Type 0) (holds : B → Settings → Conte
       record {
         answers = stands old _ (λ g. (at g, ap (gate_after g) (sym (none u))));
         crash = λ t x held lawful.
-            subst (λ ks. CrashLeaves old.config x ks (leaves old.book old.config) (leaves old.book old.config))
+            subst (λ ks. GateLeaves leaves old old x ks)
             (sym (none u)) (λ ys l. l);
       }
 
@@ -241,7 +244,7 @@ module _ {B : Type 0} (trusted : B → Type 0) (holds : B → Settings → Conte
   serves_nothing form old w served text none at = record {
     answers = stands old _ at;
     crash = λ t x held lawful.
-        subst (λ ks. CrashLeaves old.config x ks (leaves old.book old.config) (leaves old.book old.config)) (sym none)
+        subst (λ ks. GateLeaves leaves old old x ks) (sym none)
         (λ ys l. l);
   }
 
@@ -295,16 +298,15 @@ module _ {B : Type 0} (trusted : B → Type 0) (holds : B → Settings → Conte
               );
         };
         crash = λ t x held lawful.
-            subst (λ u. CrashLeaves old.config x (calls_asked u asked) (leaves old.book old.config)
-            (leaves new.book old.config)) (sym e) (r.crash t x held lawful);
+            subst (λ u. GateLeaves leaves old new x (calls_asked u asked)) (sym e) (r.crash t x held lawful);
       }
 
   -- ---- lines
 
   -- what is so of the lines of what a book held, where that stays
-  pub recalls : (old new : Gate B) (wanted : Streamed) (P : Option (List ℕ) → Type 0) → new.config ≡ old.config
-      → IsKeptGate trusted holds leaves old new
-      → OfHeldUnder trusted holds old.book new.book old.config (λ x. P (stream_of x wanted))
+  pub recalls : (old new : Gate B) (wanted : Streamed) (P : Option (List ℕ) → Type 0)
+      → settings_of new ≡ settings_of old → IsKeptGate trusted holds leaves old new
+      → OfBook trusted holds old new (λ x. P (stream_of x wanted))
       → Recalls trusted holds leaves old wanted P new
   recalls old new wanted P settings kept told = record {
     answers = record {
@@ -316,7 +318,7 @@ module _ {B : Type 0} (trusted : B → Type 0) (holds : B → Settings → Conte
         (told t g.content over.held.book over.lawful, refl),
       );
     };
-    crash = λ t x held lawful. kept.book.leaves_on t old.config x held.book;
+    crash = λ t x held lawful. kept.book.leaves_on t (settings_of old) x held.book;
   }
 
   -- what a request for lines comes to

@@ -1,8 +1,7 @@
 //! The gate as what answers requests.
 ghost use Rattle.std.specs.Prelude.{◌≡◌, false, MatchResult, option_map, string_bytes};
 ghost use Rattle.gate_types.specs.Tap.{has_failed};
-ghost use Rattle.gate_book_trait.specs.Kept.{OfHeldUnder};
-ghost use Rattle.gate_core.specs.Holding.{IsKeptGate};
+ghost use Rattle.gate_core.specs.Holding.{IsKeptGate, OfBook, settings_of};
 ghost use Rattle.gate_http.specs.Answer.{build_number, change_number, item_serial, told_item};
 ghost use Rattle.gate_http.specs.Asked.{streamed_by};
 ghost use Rattle.gate_http.specs.Exchange.{Stops};
@@ -112,11 +111,11 @@ fn write_lines<B: Archive, W: Write>(
     w: &mut Tap<W>,
 ) -> Result<(), StreamFault>
     requires { has_failed w.old ≡ false }
-    ensures written { OfHeldUnder B.IsTrusted B.Holds gate.old.book gate.new.book gate.old.config (λ x.
+    ensures written { OfBook B.IsTrusted B.Holds gate.old gate.new (λ x.
         WritesLines x (streamed_by wanted.entry) front.now W.contents w.old w.new result) }
     ensures stops { Stops w.old w.new result }
     ensures kept { IsKeptGate B.IsTrusted B.Holds B.LeavesOneOf gate.old gate.new }
-    ensures settings { gate.new.config ≡ gate.old.config }
+    ensures settings { settings_of gate.new ≡ settings_of gate.old }
 {
     match wanted {
         Stream::History(queue) => history_lines(gate.history(queue, front, w)),

@@ -110,13 +110,14 @@ pub fn get_one<B: Archive, W: Write>(
     writer: &mut Tap<W>,
 ) -> Result<Served, RequestFault>
     requires { has_failed writer.old ≡ false }
-    ensures ok { IfOk result (λ served. ServesGet B.IsTrusted B.Holds gate.old gate.new path.now served
-        (Took W.contents writer.old writer.new)) }
+    ensures ok { IfOk result (λ served. ServesGet B.IsTrusted B.Holds B.LeavesOneOf gate.old gate.new path.now
+        served (Took W.contents writer.old writer.new)) }
     // a beginning of the content was written
     ensures write { IsErrOf result RequestFault.Write → (served : Served)
-        × ServesGet B.IsTrusted B.Holds gate.old gate.new path.now served (TookFront W.contents writer.old writer.new) }
-    ensures store { IsErrOf result RequestFault.Store → ServesGet B.IsTrusted B.Holds gate.old gate.new path.now
-        (Served.Answered 200) (TookFront W.contents writer.old writer.new) }
+        × ServesGet B.IsTrusted B.Holds B.LeavesOneOf gate.old gate.new path.now served
+        (TookFront W.contents writer.old writer.new) }
+    ensures store { IsErrOf result RequestFault.Store → ServesGet B.IsTrusted B.Holds B.LeavesOneOf gate.old gate.new
+        path.now (Served.Answered 200) (TookFront W.contents writer.old writer.new) }
     ensures memory { IsErrOf result RequestFault.NoMemory → (gate.new ≡ gate.old) × (writer.new ≡ writer.old) }
     ensures others { IfErr result (λ e.
         (e ≡ RequestFault.Write) ⊎ (e ≡ RequestFault.NoMemory) ⊎ (e ≡ RequestFault.Store)) }

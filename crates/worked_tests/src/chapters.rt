@@ -24,11 +24,8 @@ fn adopts(
     wanted: &str,
 ) -> Gate<MemBook> {
     let other = config(rt, words);
-    let Gate {
-        config: kept,
-        mut book,
-        ..
-    } = gate;
+    let kept = gate.config().copy().expect(rt, "memory");
+    let mut book = gate.into_book();
     let fault = book.adopt(&other).err();
     is(rt, outcome(fault), wanted, words);
     if fault.is_none() {

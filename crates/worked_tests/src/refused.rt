@@ -151,19 +151,16 @@ fn takes(rt: &impl Abort, book: &mut MemBook, other: &Config) -> bool {
     }
 }
 
-/// The gate with other settings. Where memory is refused its status is as it was, and it takes them when they come
-/// again.
+/// The gate with other settings than those that it was made with. Where memory is refused its status is as it was, and
+/// it takes them when they come again.
 fn adopted(
     rt: &(impl Abort + AllocGlobal),
     gate: Gate<MemBook>,
+    kept: Config,
     other: Config,
     before: &str,
 ) -> Gate<MemBook> {
-    let Gate {
-        config: kept,
-        mut book,
-        ..
-    } = gate;
+    let mut book = gate.into_book();
     if takes(rt, &mut book, &other) {
         return Gate::new(other, book);
     }
@@ -180,8 +177,9 @@ fn a_refusal_of_memory_leaves_the_settings_of_a_book(rt: HostRuntime) {
     let mut gate = gate_in_memory(&rt, "core 2 1", "");
     goes_on(&rt, &mut gate, "two taken", "tells two taken");
     let before = shown(&rt, &mut gate);
+    let kept = config(&rt, "core 2 1");
     let other = config(&rt, OTHERS);
-    let mut gate = adopted(&rt, gate, other, before.as_str());
+    let mut gate = adopted(&rt, gate, kept, other, before.as_str());
     is(
         &rt,
         shown(&rt, &mut gate).as_str(),

@@ -275,6 +275,13 @@ queue web window 3 landed 1
 end
 "#;
 
+/// The gate, with what it reads counted.
+fn counted<B: Archive + Drop>(rt: &(impl Abort + AllocGlobal), gate: Gate<B>) -> Gate<Watched<B>> {
+    let config = gate.config().copy().expect(rt, "memory");
+    let book = gate.into_book();
+    Gate::new(config, Watched { book, asked: 0 })
+}
+
 /// The gate goes on by these parts, of which the last delivery asks for a few items, plans and builds.
 fn reads_few<B: Archive>(
     rt: &(impl Abort + AllocGlobal),
@@ -282,15 +289,14 @@ fn reads_few<B: Archive>(
     parts: &str,
 ) {
     goes_on(rt, gate, "a few items are read", parts);
-    holds(rt, gate.book.asked <= 12, parts);
+    holds(rt, gate.book().asked <= 12, parts);
 }
 
 fn reads_no_more_of_a_long_queue<B: Archive + Drop>(
     rt: &(impl Abort + AllocGlobal),
     gate: Gate<B>,
 ) {
-    let Gate { config, book, .. } = gate;
-    let mut gate = Gate::new(config, Watched { book, asked: 0 });
+    let mut gate = counted(rt, gate);
     goes_on(rt, &mut gate, "a full queue", FULL_WEB);
     reads_few(rt, &mut gate, FIRST_ENDS);
     reads_few(rt, &mut gate, FIRST_LANDS);
@@ -358,8 +364,7 @@ fn asks_about_nobody_else_who_waits<B: Archive + Drop>(
     rt: &(impl Abort + AllocGlobal),
     gate: Gate<B>,
 ) {
-    let Gate { config, book, .. } = gate;
-    let mut gate = Gate::new(config, Watched { book, asked: 0 });
+    let mut gate = counted(rt, gate);
     goes_on(rt, &mut gate, "many wait", MANY_WAIT);
     reads_few(rt, &mut gate, ANOTHER_COMES);
     reads_few(rt, &mut gate, ANOTHER_ENTERS);

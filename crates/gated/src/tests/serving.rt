@@ -63,6 +63,15 @@ $ gated init serve_taken.toml serve_taken.gate
 $ gated serve serve_taken.toml serve_taken.gate --port PORT --count 1
 |gated: I4 listen
 = 1
+$ gated serve serve_taken.toml serve_taken.gate --port PORT --count 1 > 0
+|gated: I4 listen
+= 1
+$ gated serve serve_taken.toml no_gate.gate --port PORT --count 1
+|gated: O4 unavailable
+= 1
+$ gated serve no_settings.toml serve_taken.gate --port PORT --count 1
+|gated: I5 settings-file
+= 1
 $ size serve_taken.gate-wal
 41
 $ gated deliver serve_taken.toml serve_taken.gate < revision
@@ -132,6 +141,11 @@ $ gated serve serve_ended.toml serve_ended.gate --port 0 --count 2
 listening 127.0.0.1:PORT
 |gated: I4 listen
 = 1
+$ size serve_ended.gate-wal
+41
+$ gated serve serve_ended.toml serve_ended.gate --port 0 --count 1 2> 0
+listening 127.0.0.1:PORT
+|= 1
 $ size serve_ended.gate-wal
 41
 $ gated deliver serve_ended.toml serve_ended.gate < approved

@@ -111,22 +111,22 @@ waits torn GET /history/core HTTP/1.1\r\nHost: gate\r\n\r\n
 waits queued POST /forge HTTP/1.1\r\nHost: gate\r\nContent-Length: 89\r\n\r\n{"id":"0b000000-0000-4000-8000-000000000002","kind":"approved","change":101,"revision":1}
 "#;
 
+/// An empty gate whose histories break off.
+fn torn_gate(rt: &(impl Abort + AllocGlobal)) -> Gate<Torn<MemBook>> {
+    let gate = Gate::<MemBook>::fresh(rt);
+    let config = gate.config().copy().expect(rt, "memory");
+    Gate::new(config, Torn(gate.into_book()))
+}
+
 #[test]
 fn a_history_that_breaks_off_is_told_and_the_next_is_served(rt: HostRuntime) {
-    let Gate { config, book, .. } = Gate::<MemBook>::fresh(&rt);
-    are_served(
-        &rt,
-        &mut Gate::new(config, Torn(book)),
-        TORN,
-        "gated: I7 store\n",
-    );
+    are_served(&rt, &mut torn_gate(&rt), TORN, "gated: I7 store\n");
 }
 
 /// The fault of the second client can't be told, and the third is answered all the same.
 #[test]
 fn where_no_fault_can_be_told_the_next_is_served(rt: HostRuntime) {
-    let Gate { config, book, .. } = Gate::<MemBook>::fresh(&rt);
-    let mut gate = Gate::new(config, Torn(book));
+    let mut gate = torn_gate(&rt);
     let listener = TcpListener::bind(&rt, "127.0.0.1:0").expect(&rt, "a port");
     let clients = clients(&rt, &listener, TORN);
     let mut errors = Tap::new(Stream::new(rt.alloc(), b"", Pace::writing(0)));

@@ -4,6 +4,7 @@ use Rattle.gate_types.specs.declared.deliveries.Answer.TheVariants.{Refused}
 use Rattle.gate_types.specs.declared.deliveries.Refusal.TheVariants as refusal
 use Rattle.gate_types.specs.State.{known_change}
 use Rattle.gate_archive.specs.ChangeText.{change_text}
+use Rattle.gate_core.specs.Holding.{settings_of}
 use Rattle.gate_http.specs.declared.respond.Told.TheVariants as told
 use Rattle.gate_http.specs.Answer.{change_number, change_said, answer_known}
 use Rattle.gate_http.specs.Asked.{change}
@@ -13,7 +14,7 @@ use Rattle.gate_http.proofs.gate.GateRespond.show_change.Goals as goal
 
 pub returns-in-Some : goal.returns-in-Some
 returns-in-Some g c =
-    let config = c.args.self.now.config in
+    let config = settings_of c.args.self.now in
     responds_kept g.B.Book.IsTrusted g.B.Book.Holds g.B.Book.LeavesOneOf _ _ (change c.args.number.now)
     (told.Answer c.answer_with.result) (λ u. refl) c.change.ensures.settings c.change.ensures.kept
     (λ t x held lawful. named_is (change_said (record { settings = config; content = x }))

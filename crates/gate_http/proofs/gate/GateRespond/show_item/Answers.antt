@@ -1,6 +1,7 @@
 use Rattle.std.proofs.Common.{refl, Some, None}
 use Rattle.std.specs.Prelude.{string_bytes}
 use Rattle.gate_archive.specs.ItemText.{item_text}
+use Rattle.gate_core.specs.Holding.{settings_of}
 use Rattle.gate_http.specs.declared.respond.Told.TheVariants as told
 use Rattle.gate_http.specs.Answer.{item_serial, told_item}
 use Rattle.gate_http.specs.Asked.{item}
@@ -10,7 +11,7 @@ use Rattle.gate_http.proofs.gate.GateRespond.show_item.Goals as goal
 
 pub returns-in-Some : goal.returns-in-Some
 returns-in-Some g c =
-    let config = c.args.self.now.config in
+    let config = settings_of c.args.self.now in
     responds_kept g.B.Book.IsTrusted g.B.Book.Holds g.B.Book.LeavesOneOf _ _ (item c.args.number.now)
     c.told_with.result (λ u. refl) c.item.ensures.settings c.item.ensures.kept
     (λ t x held lawful. named_is (item_text config x.state) told_item c.told_with.result
