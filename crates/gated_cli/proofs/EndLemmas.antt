@@ -28,6 +28,11 @@ refused_status f asked b a e h = made_from f fault.Unavailable asked b a e h
 pub cut_status : (f : Fault) (asked : Bool) (b a : Streams) → f ≡ fault.Write → a.output_failed ≡ true → StatusIsCut asked b a → ReplayEnds asked f b a
 cut_status f asked b a e failed h = made_from f fault.Write asked b a e (failed, inr h)
 
+-- both are so of a fault
+pub both : {T : Type 0} (P Q : Fault → Type 0) (d : Result T Fault) → IfErr d P → IfErr d Q → IfErr d (λ f. P f × Q f)
+both P Q (Ok x) p q = tt
+both P Q (Err f) p q = (p, q)
+
 -- a status of 1 has its fault
 pub has_fault : {T : Type 0} (X : Type 0) (P Q : Fault → Type 0) (d : Result T Fault) (n : ℕ)
     → OnOk d ((n ≡ 0) × X) → IfErr d (λ f. (n ≡ 1) × P f) → IfErr d Q → n ≡ 1 → (f : Fault) × P f × Q f

@@ -11,7 +11,7 @@ use Rattle.gate_types.specs.Gated.{Gated}
 use Rattle.gate_core.specs.Left.{LeavesBy, left_after}
 use Rattle.gate_core.specs.declared.gate.Gate.{Gate}
 use Rattle.gate_core.specs.Held.{IsOver, Goes}
-use Rattle.gate_core.specs.Holding.{GateHolds}
+use Rattle.gate_core.specs.Holding.{GateHolds, book_of, settings_of}
 use Rattle.gate_core.specs.declared.fault.ReplayFault.{ReplayFault}
 use Rattle.gate_core.specs.declared.fault.ReplayFault.TheVariants as replay
 use Rattle.gate_live.specs.Both.{HoldsBoth}
@@ -98,22 +98,22 @@ opened_leaves s new c g settled adopted file =
 
 -- and after calls it leaves what they leave of that content
 pub leaves_called : {B : Type 0} (leaves : B → Settings → List Content → Type 0) (old new : Gate B) (c : Settings)
-    (g : Gated) (ks : List Call) → g.settings ≡ c → LeavesBy leaves old new g ks → leaves old.book c (g.content ∷ []) →
-    leaves new.book c (left_after c g.content ks (g.content ∷ []))
+    (g : Gated) (ks : List Call) → g.settings ≡ c → LeavesBy leaves old new g ks → leaves (book_of old) c (g.content ∷ []) →
+    leaves (book_of new) c (left_after c g.content ks (g.content ∷ []))
 leaves_called leaves old new c g ks is by was =
-    subst (λ k. leaves old.book k (g.content ∷ []) → leaves new.book k (left_after k g.content ks (g.content ∷ []))) is
+    subst (λ k. leaves (book_of old) k (g.content ∷ []) → leaves (book_of new) k (left_after k g.content ks (g.content ∷ []))) is
     (by (g.content ∷ [])) was
 
 -- what a gate over the book goes to, its file goes to, where a book that holds a content shows it
 pub goes_over : {B : Type 0} (at : B → State) (holds : B → Settings → Content → Type 0)
     (leaves : B → Settings → List Content → Type 0) →
     ((b : B) (k : Settings) (x : Content) → holds b k x → ShowsFor (at b) k x) → (before : State) (c : Settings)
-    (old new : Gate B) (P Q : Gated → Gated → Type 0) → old.config ≡ c → StaysLawful c →
-    (HasCleanDisk (at old.book) → (g : Gated) → OpensTo before c g → GateHolds holds old g.content) →
-    (HasCleanDisk (at old.book) → (g : Gated) → OpensTo before c g → leaves old.book c (g.content ∷ [])) →
-    (HasCleanDisk (at new.book) → (g after : Gated) → g.settings ≡ c → holds old.book c g.content →
-    leaves old.book c (g.content ∷ []) → P g after → Q g after) →
-    Goes (λ b. HasCleanDisk (at b)) holds old new P → GoesOver before (at new.book) c Q
+    (old new : Gate B) (P Q : Gated → Gated → Type 0) → settings_of old ≡ c → StaysLawful c →
+    (HasCleanDisk (at (book_of old)) → (g : Gated) → OpensTo before c g → GateHolds holds old g.content) →
+    (HasCleanDisk (at (book_of old)) → (g : Gated) → OpensTo before c g → leaves (book_of old) c (g.content ∷ [])) →
+    (HasCleanDisk (at (book_of new)) → (g after : Gated) → g.settings ≡ c → IsOver holds old g →
+    leaves (book_of old) c (g.content ∷ []) → P g after → Q g after) →
+    Goes (λ b. HasCleanDisk (at b)) holds old new P → GoesOver before (at (book_of new)) c Q
 goes_over at holds leaves shows before c old new P Q is stays opens left gives goes up g file =
     let clean = goes.trusted_before up in
     let settings = settings_are before c g file in
@@ -127,26 +127,26 @@ goes_over at holds leaves shows before c old new P Q is stays opens left gives g
       went.0,
       record {
         settings = went.1.settings ∙ still;
-        shows = shows new.book c went.0.content (subst (λ k. holds new.book k went.0.content) still went.1.held.book);
+        shows = shows (book_of new) c went.0.content (subst (λ k. holds (book_of new) k went.0.content) still went.1.held.book);
         lawful = subst (λ k. IsLawfulContent k went.0.content) still went.1.lawful;
       },
-      gives up g went.0 settings (subst (λ k. holds old.book k g.content) is over.held.book) (left clean g file) went.2,
+      gives up g went.0 settings over (left clean g file) went.2,
     )
 
 -- and so where the gate is over a book that holds in memory what is live of that one
 pub goes_over_live : {B : Type 0} (at : B → State) (holds : B → Settings → Content → Type 0)
     (leaves : B → Settings → List Content → Type 0) →
     ((b : B) (k : Settings) (x : Content) → holds b k x → ShowsFor (at b) k x) → (before : State) (c : Settings) (book : B)
-    (made : LiveBook B) (old new : Gate (LiveBook B)) (P Q : Gated → Gated → Type 0) → old.config ≡ c → StaysLawful c →
+    (made : LiveBook B) (old new : Gate (LiveBook B)) (P Q : Gated → Gated → Type 0) → settings_of old ≡ c → StaysLawful c →
     (HasCleanDisk (at made.book) → HasCleanDisk (at book)) →
     (HasCleanDisk (at made.book) → (x : Content) → holds book c x → HoldsBoth holds made c x) →
     (HasCleanDisk (at made.book) → (x : Content) → holds book c x →
-    (ys : List Content) → leaves book c ys → leaves made.book c ys) → old.book ≡ made →
+    (ys : List Content) → leaves book c ys → leaves made.book c ys) → (book_of old) ≡ made →
     ((x : Content) → HoldsBoth holds made c x → GateHolds (λ r k x. HoldsBoth holds r k x) old x) →
     (HasCleanDisk (at book) → (g : Gated) → OpensTo before c g → holds book c g.content) →
     (HasCleanDisk (at book) → (g : Gated) → OpensTo before c g → leaves book c (g.content ∷ [])) →
-    ((g after : Gated) → g.settings ≡ c → leaves old.book.book c (g.content ∷ []) → P g after → Q g after) →
-    Goes (λ r. HasCleanDisk (at r.book)) (λ r k x. HoldsBoth holds r k x) old new P → GoesOver before (at new.book.book) c Q
+    ((g after : Gated) → g.settings ≡ c → leaves (book_of old).book c (g.content ∷ []) → P g after → Q g after) →
+    Goes (λ r. HasCleanDisk (at r.book)) (λ r k x. HoldsBoth holds r k x) old new P → GoesOver before (at (book_of new).book) c Q
 goes_over_live at holds leaves shows before c book made old new P Q is stays trusted filled kept same held opens left gives goes =
     goes_over (λ r. at r.book) (λ r k x. HoldsBoth holds r k x) (λ r k ys. leaves r.book k ys)
     (λ r k x held. shows r.book k x held.below) before c old new P Q is stays
@@ -157,7 +157,7 @@ goes_over_live at holds leaves shows before c book made old new P Q is stays tru
     let clean = subst (λ r. HasCleanDisk (at r.book)) same was in
     subst (λ r. leaves r.book c (g.content ∷ [])) (sym same)
     (kept clean g.content (opens (trusted clean) g file) (g.content ∷ []) (left (trusted clean) g file)))
-    (λ clean g after set held was p. gives g after set was p) goes
+    (λ clean g after set over was p. gives g after set was p) goes
 
 -- ---- serving
 

@@ -6,3 +6,4 @@ pub mod ShowLemmas
 pub mod TalkLemmas
 mod OfFileLemmas
 mod AskLemmas
+mod BlameLemmas

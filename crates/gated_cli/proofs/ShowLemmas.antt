@@ -1,15 +1,21 @@
 -- What printing the texts of a gate comes to: over its file, and on the streams.
 use Rattle.std.proofs.Common.{refl, ◌≡◌, ◌⊎◌, inl, inr, sym, subst, ap, Bool, true, false, List, Option, ℕ}
 use Rattle.std.specs.Prelude.{Err, IfErr, None, Ok, OnErr, OnOk, Result}
-use Rattle.gate_types.specs.Tap.{has_failed, Took, TookFront}
+use Rattle.std.specs.Io.KnownBytes.{Appends}
+use Rattle.gate_types.specs.Tap.{has_failed, inside, Took, TookFront}
 use Rattle.gate_types.specs.Gated.{Gated}
 use Rattle.gate_types.specs.declared.tap.Tap.{Tap}
-use Rattle.gated_cli.specs.Doing.{Looks, Prints, Streams, beside, status_of}
-use Rattle.gated_cli.specs.Ending.{AskingEnds, HistoryEnds, LinesEnd, StatusEnds}
+use Rattle.gate_types.specs.declared.open_fault.OpenFault.{OpenFault}
+use Rattle.gated_cli.specs.Doing.{Looks, Prints, Shows, Streams, beside, status_of}
+use Rattle.gated_cli.specs.Ending.{AskingEnds, HistoryEnds, LinesEnd, ShowingEnds, StatusEnds}
+use Rattle.gated_cli.specs.OfFile.{TextOf}
 use Rattle.gated_cli.specs.OverFile.{file_fault}
-use Rattle.gated_cli.specs.Showing.{LeavesStatus, StopsContent, StopsHistory, StopsLines, StopsStatus, WritesStatus}
+use Rattle.gated_cli.specs.Showing.{EndsWell, LeavesStatus, Stops, StopsContent, StopsHistory, StopsLines}
+use Rattle.gated_cli.specs.Showing.{StopsStatus, Writes, WritesStatus}
 use Rattle.gated_cli.specs.declared.run.fault.Fault.{Fault}
 use Rattle.gated_cli.specs.declared.run.fault.Fault.TheVariants as fault
+use Rattle.gated_cli.specs.declared.run.shown.Shown.{Shown}
+use Rattle.gated_cli.specs.declared.run.shown.Shown.TheVariants as shown
 
 -- ---- the status
 
@@ -41,7 +47,7 @@ status_breaks held r f g old new is writes opened stops =
     go fault.Refused leaves opened stops = absurd stops
 
 -- a text is printed
-pub prints : {W : Type 0} (held : W → Option (List ℕ)) (old new : Tap W) → (has_failed new ≡ false) × (text : List ℕ) × Took held old new text →
+prints : {W : Type 0} (held : W → Option (List ℕ)) (old new : Tap W) → (has_failed new ≡ false) × (text : List ℕ) × Took held old new text →
     (left : Option (List ℕ)) → (failed : Bool) → Prints (beside held left failed old) (beside held left failed new)
 prints held old new h left failed = record {
   looks = record { unread = refl; unfailed = h.0 };
@@ -66,7 +72,7 @@ status_ends held old new fault.NoDelivery h left failed = absurd h
 status_ends held old new fault.Refused h left failed = absurd h
 
 -- what was printed of it, or why not, and then closed
-pub status_closes : {W : Type 0} (held : W → Option (List ℕ)) (old new : Tap W) (done result : Result (Unit {0}) Fault) →
+status_closes : {W : Type 0} (held : W → Option (List ℕ)) (old new : Tap W) (done result : Result (Unit {0}) Fault) →
     OnErr done (result ≡ done) → OnOk done (IfErr result (λ f. f ≡ fault.Store)) →
     OnOk done ((has_failed new ≡ false) × (text : List ℕ) × Took held old new text) → IfErr done (StopsStatus held old new) →
     IfErr result (λ f. (left : Option (List ℕ)) → (failed : Bool) → StatusEnds f (beside held left failed old) (beside held left failed new))
@@ -79,7 +85,7 @@ status_closes held old new (Err f) result kept store ok err =
 -- ---- a history
 
 -- the input is left alone, and the output hasn't failed
-pub looks : {W : Type 0} (held : W → Option (List ℕ)) (old new : Tap W) → has_failed new ≡ false →
+looks : {W : Type 0} (held : W → Option (List ℕ)) (old new : Tap W) → has_failed new ≡ false →
     (left : Option (List ℕ)) → (failed : Bool) → Looks (beside held left failed old) (beside held left failed new)
 looks held old new h left failed = record { unread = refl; unfailed = h }
 
@@ -100,7 +106,7 @@ history_ends held old new fault.NoDelivery h left failed = absurd h
 history_ends held old new fault.Refused h left failed = absurd h
 
 -- what was printed, or why not, and then closed: how it ends is known of each fault of printing, and where it can't be closed
-pub look_closes : {W : Type 0} (held : W → Option (List ℕ)) (old new : Tap W) (Stops : Fault → Type 0) (Ends : Fault → Streams → Streams → Type 0)
+look_closes : {W : Type 0} (held : W → Option (List ℕ)) (old new : Tap W) (Stops : Fault → Type 0) (Ends : Fault → Streams → Streams → Type 0)
     (done result : Result (Unit {0}) Fault) → OnErr done (result ≡ done) → OnOk done (IfErr result (λ f. f ≡ fault.Store)) →
     OnOk done (has_failed new ≡ false) → IfErr done Stops →
     ((f : Fault) → Stops f → (left : Option (List ℕ)) → (failed : Bool) → Ends f (beside held left failed old) (beside held left failed new)) →
@@ -112,13 +118,6 @@ look_closes held old new Stops Ends (Ok x) (Err f) kept store ok err stopped unc
     (unclosed (beside held left failed old) (beside held left failed new) (looks held old new ok left failed))
 look_closes held old new Stops Ends (Err f) result kept store ok err stopped unclosed =
     subst (λ r. IfErr r (λ f. (left : Option (List ℕ)) → (failed : Bool) → Ends f (beside held left failed old) (beside held left failed new))) (sym kept) (stopped f err)
-
-pub history_closes : {W : Type 0} (held : W → Option (List ℕ)) (old new : Tap W) (done result : Result (Unit {0}) Fault) →
-    OnErr done (result ≡ done) → OnOk done (IfErr result (λ f. f ≡ fault.Store)) →
-    OnOk done (has_failed new ≡ false) → IfErr done (StopsHistory old new) →
-    IfErr result (λ f. (left : Option (List ℕ)) → (failed : Bool) → HistoryEnds f (beside held left failed old) (beside held left failed new))
-history_closes held old new done result kept store ok err =
-    look_closes held old new (StopsHistory old new) HistoryEnds done result kept store ok err (history_ends held old new) (λ b a l. l)
 
 -- ---- deliveries
 
@@ -138,13 +137,6 @@ lines_end held old new fault.SettingsFile h left failed = absurd h
 lines_end held old new fault.NoQueue h left failed = absurd h
 lines_end held old new fault.Refused h left failed = absurd h
 
-pub lines_close : {W : Type 0} (held : W → Option (List ℕ)) (old new : Tap W) (done result : Result (Unit {0}) Fault) →
-    OnErr done (result ≡ done) → OnOk done (IfErr result (λ f. f ≡ fault.Store)) →
-    OnOk done (has_failed new ≡ false) → IfErr done (StopsLines old new) →
-    IfErr result (λ f. (left : Option (List ℕ)) → (failed : Bool) → LinesEnd f (beside held left failed old) (beside held left failed new))
-lines_close held old new done result kept store ok err =
-    look_closes held old new (StopsLines old new) LinesEnd done result kept store ok err (lines_end held old new) (λ b a l. l)
-
 -- ---- what is asked as over HTTP
 
 -- a fault of it, on the streams
@@ -163,12 +155,49 @@ asking_ends held old new fault.SettingsFile h left failed = absurd h
 asking_ends held old new fault.NoQueue h left failed = absurd h
 asking_ends held old new fault.NoDelivery h left failed = absurd h
 
-pub asking_closes : {W : Type 0} (held : W → Option (List ℕ)) (old new : Tap W) (done result : Result (Unit {0}) Fault) →
-    OnErr done (result ≡ done) → OnOk done (IfErr result (λ f. f ≡ fault.Store)) →
-    OnOk done (has_failed new ≡ false) → IfErr done (StopsContent old new) →
-    IfErr result (λ f. (left : Option (List ℕ)) → (failed : Bool) → AskingEnds f (beside held left failed old) (beside held left failed new))
-asking_closes held old new done result kept store ok err =
-    look_closes held old new (StopsContent old new) AskingEnds done result kept store ok err (asking_ends held old new) (λ b a l. l)
+-- ---- any of them
+
+-- a file that isn't opened leaves the output alone
+pub stops_unopened : {W : Type 0} (s : Shown) (held : W → Option (List ℕ)) (at : Tap W) (f : OpenFault)
+    → Stops s held at at (fault.File f)
+stops_unopened shown.Status held at f = refl
+stops_unopened (shown.History queue) held at f = refl
+stops_unopened (shown.Deliveries behind) held at f = refl
+stops_unopened (shown.Content path) held at f = refl
+
+-- a text that is written, on the streams
+pub shows : {W : Type 0} (s : Shown) (held : W → Option (List ℕ)) (old new : Tap W) → EndsWell s held old new →
+    (left : Option (List ℕ)) → (failed : Bool) → Shows s (beside held left failed old) (beside held left failed new)
+shows shown.Status held old new h = prints held old new h
+shows (shown.History queue) held old new h = looks held old new h
+shows (shown.Deliveries behind) held old new h = looks held old new h
+shows (shown.Content path) held old new h = looks held old new h
+
+-- and it is the one of the gate
+pub told_of : {W : Type 0} (s : Shown) (g : Gated) (held : W → Option (List ℕ)) (old new : Tap W) (u : Unit {0}) →
+    Writes s g held old new (Ok u) → TextOf s g (Appends (held (inside old)) (held (inside new)))
+told_of shown.Status g held old new u h = h
+told_of (shown.History queue) g held old new u h = h
+told_of (shown.Deliveries behind) g held old new u h = h
+told_of (shown.Content path) g held old new u h = h
+
+-- what was printed, or why not, and then closed
+pub show_closes : {W : Type 0} (s : Shown) (held : W → Option (List ℕ)) (old new : Tap W)
+    (done result : Result (Unit {0}) Fault) → OnErr done (result ≡ done) →
+    OnOk done (IfErr result (λ f. f ≡ fault.Store)) → OnOk done (EndsWell s held old new) →
+    IfErr done (Stops s held old new) → IfErr result (λ f. (left : Option (List ℕ)) → (failed : Bool) →
+    ShowingEnds s f (beside held left failed old) (beside held left failed new))
+show_closes shown.Status held old new done result kept store ok err =
+    status_closes held old new done result kept store ok err
+show_closes (shown.History queue) held old new done result kept store ok err =
+    look_closes held old new (StopsHistory old new) HistoryEnds done result kept store ok err
+    (history_ends held old new) (λ b a l. l)
+show_closes (shown.Deliveries behind) held old new done result kept store ok err =
+    look_closes held old new (StopsLines old new) LinesEnd done result kept store ok err
+    (lines_end held old new) (λ b a l. l)
+show_closes (shown.Content path) held old new done result kept store ok err =
+    look_closes held old new (StopsContent old new) AskingEnds done result kept store ok err
+    (asking_ends held old new) (λ b a l. l)
 
 -- ---- either
 

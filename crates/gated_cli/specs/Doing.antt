@@ -16,6 +16,8 @@ use Rattle.gate_migration.specs.declared.migrating.Migrated.{Migrated}
 use Rattle.gate_migration.specs.declared.migrating.Migrated.TheVariants as migrated
 use Rattle.gate_core.specs.Lines.{lines_of}
 use Rattle.gate_core.specs.Replies.{Replayed}
+use Rattle.gated_cli.specs.declared.run.shown.Shown.{Shown}
+use Rattle.gated_cli.specs.declared.run.shown.Shown.TheVariants as shown
 
 -- what a command's input has left and what its output holds, and whether they have failed
 pub record Streams : Type 0 where
@@ -112,6 +114,13 @@ pub record Announces (asked : ℕ) (before after : Streams) : Type 0 where
   pub bound : IsPortFor asked port
   pub unread : after.left ≡ before.left
   pub written : Appends before.held after.held (listening_line port)
+
+-- a text of a gate is printed
+abbrev pub Shows : Shown → Streams → Streams → Type 0
+Shows shown.Status before after = Prints before after
+Shows (shown.History queue) before after = Looks before after
+Shows (shown.Deliveries behind) before after = Looks before after
+Shows (shown.Content path) before after = Looks before after
 
 -- what is told of a file that is migrated
 abbrev pub migrated_text : Migrated → List ℕ

@@ -1,6 +1,6 @@
 -- How a command ends with a fault: which fault comes when, and what is read, written and told then.
 use Rattle.std.specs.Prelude.{◌≡◌, true, false, ⊤, ◌⊎◌, ◌≤◌, ◌<◌, ℕ, Bool, List, [], ◌∷◌, ◌++◌, length, take}
-use Rattle.std.specs.Prelude.{Option, Err}
+use Rattle.std.specs.Prelude.{Option, Result, Err}
 use Rattle.std.specs.Io.KnownBytes.{Appends, Consumes}
 use Rattle.gate_types.specs.Settings.{Settings}
 use Rattle.gate_types.specs.Tap.{has_failed, Took, TookFront, WritesFront}
@@ -17,15 +17,20 @@ use Rattle.gated_command.specs.declared.words.Cmd.TheVariants.{Check, Init, Repl
 use Rattle.gated_command.specs.declared.words.Cmd.TheVariants.{Deliveries, Get, Serve, Migrate}
 use Rattle.gated_cli.specs.declared.run.fault.Fault.{Fault}
 use Rattle.gated_cli.specs.declared.run.fault.Fault.TheVariants as fault
+use Rattle.gated_cli.specs.declared.run.shown.Shown.{Shown}
+use Rattle.gated_cli.specs.declared.run.shown.Shown.TheVariants as shown
 
--- a fault that comes before the input and the output are touched: of the gate's file, of the settings file, or that
--- memory was refused; a fault of the settings is that of some file within the limit
+-- a fault of the settings file, or want of memory for it; one of the settings is that of some file within the limit
+abbrev pub IsOfSettings : Fault → Type 0
+IsOfSettings (fault.Settings f) = (file : List ℕ) × (length file ≤ settings_limit) × Gives (Err f) (said_by file)
+IsOfSettings fault.SettingsFile = ⊤
+IsOfSettings fault.NoMemory = ⊤
+IsOfSettings _ = ⊥
+
+-- a fault that comes before the input and the output are touched: of the gate's file, or of the settings
 abbrev pub IsEarly : Fault → Type 0
-IsEarly (fault.Settings f) = (file : List ℕ) × (length file ≤ settings_limit) × Gives (Err f) (said_by file)
-IsEarly fault.SettingsFile = ⊤
 IsEarly (fault.File f) = ⊤
-IsEarly fault.NoMemory = ⊤
-IsEarly _ = ⊥
+IsEarly f = IsOfSettings f
 
 -- a fault of the gate's file, or want of memory before it was read
 abbrev pub IsOfFile : Fault → Type 0
@@ -85,12 +90,12 @@ ReplayEnds asked fault.Read before after = InputFails before after
 ReplayEnds asked fault.Write before after =
     (after.output_failed ≡ true) × (ReplyIsCut before after ⊎ StatusIsCut asked before after)
 ReplayEnds asked fault.Unavailable before after = StatusIsRefused asked before after
-ReplayEnds asked fault before after = IsEarly fault × (after ≡ before)
+ReplayEnds asked fault before after = IsOfSettings fault × (after ≡ before)
 
 -- how a check ends with a fault
 abbrev pub CheckEnds : Fault → Streams → Streams → Type 0
 CheckEnds fault.Write before after = (after.output_failed ≡ true) × CountsAreCut before after
-CheckEnds fault before after = IsEarly fault × (after ≡ before)
+CheckEnds fault before after = IsOfSettings fault × (after ≡ before)
 
 -- the input failed and the output didn't, which grew by replies
 pub record DeliveryStops (before after : Streams) : Type 0 where
@@ -159,6 +164,13 @@ AskingEnds fault.Store before after = Looks before after
 AskingEnds fault.Refused before after = Looks before after
 AskingEnds fault before after = IsEarly fault × (after ≡ before)
 
+-- how printing a text of a gate ends with a fault
+abbrev pub ShowingEnds : Shown → Fault → Streams → Streams → Type 0
+ShowingEnds shown.Status fault before after = StatusEnds fault before after
+ShowingEnds (shown.History queue) fault before after = HistoryEnds fault before after
+ShowingEnds (shown.Deliveries behind) fault before after = LinesEnd fault before after
+ShowingEnds (shown.Content path) fault before after = AskingEnds fault before after
+
 -- the output failed within the line that names the port
 pub record AnnouncementIsCut (asked : ℕ) (before after : Streams) : Type 0 where
   pub port : ℕ
@@ -173,6 +185,12 @@ IsOfServing fault.Listener = ⊤
 IsOfServing fault.Write = ⊤
 IsOfServing fault.NoMemory = ⊤
 IsOfServing _ = ⊥
+
+-- how many connections may be served, of so many: none where the line that names the port isn't printed whole
+abbrev pub most_served : Result (Unit {0}) Fault → ℕ → ℕ
+most_served (Err fault.Write) count = 0
+most_served (Err fault.NoMemory) count = 0
+most_served _ count = count
 
 -- how serving over a file ends with a fault: nothing is printed where the port can't be had, and the line that names it
 -- where a connection can't be accepted, or all are served and the file can't be closed

@@ -6,4 +6,5 @@ pub mod InMemory
 pub mod OverFile
 pub mod Showing
 pub mod OfFile
+pub mod Blame
 pub mod Program

@@ -23,6 +23,8 @@ use Rattle.gated_command.specs.declared.words.Cmd.TheVariants.{Deliveries, Get, 
 use Rattle.gated_cli.specs.Doing.{HasSettings, Streams, migrated_text, status_of}
 use Rattle.gated_cli.specs.OverFile.{GoesOver, RepliesOver, ServesOver}
 use Rattle.gated_cli.specs.Showing.{OfContent, OfLines, lines_told}
+use Rattle.gated_cli.specs.declared.run.shown.Shown.{Shown}
+use Rattle.gated_cli.specs.declared.run.shown.Shown.TheVariants as shown
 
 -- in an empty file, the tables of a gate before its first delivery are made, and a crash leaves these
 abbrev pub MakesGate : Settings → State → State → Type 0
@@ -52,6 +54,13 @@ DeliveriesOf after g Takes = OfLines (lines_told g after) Takes
 
 abbrev pub ContentOf : List ℕ → Gated → (List ℕ → Type 0) → Type 0
 ContentOf path g Takes = OfContent g path (Answered 200) Takes
+
+-- the one that is asked for
+abbrev pub TextOf : Shown → Gated → (List ℕ → Type 0) → Type 0
+TextOf shown.Status = StatusOf
+TextOf (shown.History queue) = HistoryOf queue.now
+TextOf (shown.Deliveries behind) = DeliveriesOf (option_map (λ s. s.now) behind)
+TextOf (shown.Content path) = ContentOf path.now
 
 -- a file of schema 1 becomes one of schema 2, and one of schema 2 is left
 abbrev pub Upgrades : Settings → Migrated → State → State → Type 0

@@ -5,6 +5,7 @@ use Rattle.sqlite.specs.State.{State}
 use Rattle.gate_types.specs.Tap.{has_failed}
 use Rattle.gate_types.specs.declared.tap.Tap.{Tap}
 use Rattle.gated_command.specs.CommandLine.{Names, may_ask_help}
+use Rattle.gated_cli.specs.Blame.{Blames}
 use Rattle.gated_cli.specs.Doing.{Streams, Does}
 use Rattle.gated_cli.specs.OfFile.{Made}
 use Rattle.gated_cli.specs.Ending.{EndsBy, TellsText}
@@ -32,13 +33,14 @@ abbrev pub HelpEndsBy : Fault → Streams → Streams → Type 0
 HelpEndsBy f before after = (after.left ≡ before.left)
     × (((f ≡ fault.NoMemory) × (after ≡ before)) ⊎ ((f ≡ fault.Write) × (after.output_failed ≡ true)))
 
--- the words name a command and it ends with this fault, or they ask for help or the version, which can't be given; it
--- is told
-abbrev pub FailsBy : {E : Type 0} → (E → Option (List ℕ)) → Fault → List Text → Streams → Streams → Tap E → Tap E
-    → Type 0
-FailsBy held f words before after old new =
-    ((cmd : Cmd) × Names words cmd × EndsBy f cmd before after × TellsBy held f cmd old new)
-    ⊎ ((may_ask_help words ≡ true) × HelpEndsBy f before after × TellsText held old new (line_of f))
+-- the words name a command and it ends with this fault, for the reason that it names, or they ask for help or the
+-- version, which can't be given; it is told
+abbrev pub FailsBy : {E W : Type 0} → (List ℕ → Type 0 → (State → State → Type 0) → Type 0) → (E → Option (List ℕ)) →
+    (W → Option (List ℕ)) → Fault → List Text → Streams → Streams → Tap E → Tap E → Tap W → Tap W → Type 0
+FailsBy Left told written f words before after old new from to =
+    ((cmd : Cmd) × Names words cmd × EndsBy f cmd before after × TellsBy told f cmd old new
+    × Blames Left written f cmd from to before after)
+    ⊎ ((may_ask_help words ≡ true) × HelpEndsBy f before after × TellsText told old new (line_of f))
 
 -- what is told where there is no memory to tell more
 abbrev pub out_of_memory : List ℕ

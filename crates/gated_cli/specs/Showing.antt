@@ -5,10 +5,14 @@ use Rattle.gate_types.specs.Tap.{has_failed, Took, TookFront}
 use Rattle.gate_types.specs.Gated.{Gated}
 use Rattle.gate_types.specs.declared.tap.Tap.{Tap}
 use Rattle.gate_types.specs.declared.records.Id.{Id}
+use Rattle.gate_types.specs.Once.{Content}
+use Rattle.gate_types.specs.Settings.{Settings}
 use Rattle.gate_archive.specs.Feed.{fed, feed_lines, id_named}
 use Rattle.gate_archive.specs.Writes.{TookSome}
 use Rattle.gate_book_trait.specs.Reads.{queue_named}
 use Rattle.gate_book_trait.specs.Writes.{OfQueue}
+use Rattle.gate_core.specs.declared.gate.Gate.{Gate}
+use Rattle.gate_core.specs.Holding.{OfGate, book_of, settings_of}
 use Rattle.gate_http.specs.declared.response.Form.TheVariants as form
 use Rattle.gate_http.specs.declared.served.Served.{Served}
 use Rattle.gate_http.specs.declared.served.Served.TheVariants.{Answered}
@@ -17,6 +21,8 @@ use Rattle.gate_http.specs.Got.{way_got}
 use Rattle.gated_cli.specs.Doing.{status_of}
 use Rattle.gated_cli.specs.declared.run.fault.Fault.{Fault}
 use Rattle.gated_cli.specs.declared.run.fault.Fault.TheVariants as fault
+use Rattle.gated_cli.specs.declared.run.shown.Shown.{Shown}
+use Rattle.gated_cli.specs.declared.run.shown.Shown.TheVariants as shown
 
 -- ---- the status
 
@@ -151,3 +157,34 @@ StopsContent old new fault.Refused = has_failed new ≡ false
 StopsContent old new fault.NoMemory = new ≡ old
 StopsContent old new (fault.File f) = new ≡ old
 StopsContent old new _ = ⊥
+
+-- ---- any of them
+
+-- what is written of a gate, or what a fault leaves of it
+abbrev pub Writes : {W : Type 0} → Shown → Gated → (W → Option (List ℕ)) → Tap W → Tap W → Result (Unit {0}) Fault →
+    Type 0
+Writes shown.Status g held old new result = WritesStatus g held old new result
+Writes (shown.History queue) g held old new result = WritesHistory g queue.now held old new result
+Writes (shown.Deliveries after) g held old new result =
+    WritesLines (lines_told g (option_map (λ s. s.now) after)) held old new result
+Writes (shown.Content path) g held old new result = WritesContent g path.now held old new result
+
+-- where it is written the output hasn't failed; of the status alone it is known there that a text was taken
+abbrev pub EndsWell : {W : Type 0} → Shown → (W → Option (List ℕ)) → Tap W → Tap W → Type 0
+EndsWell shown.Status held old new = (has_failed new ≡ false) × (text : List ℕ) × Took held old new text
+EndsWell (shown.History queue) held old new = has_failed new ≡ false
+EndsWell (shown.Deliveries after) held old new = has_failed new ≡ false
+EndsWell (shown.Content path) held old new = has_failed new ≡ false
+
+-- what a fault of it leaves of the output, whatever the gate is
+abbrev pub Stops : {W : Type 0} → Shown → (W → Option (List ℕ)) → Tap W → Tap W → Fault → Type 0
+Stops shown.Status held old new f = StopsStatus held old new f
+Stops (shown.History queue) held old new f = StopsHistory old new f
+Stops (shown.Deliveries after) held old new f = StopsLines old new f
+Stops (shown.Content path) held old new f = StopsContent old new f
+
+-- a crash leaves what it could leave before
+abbrev pub LeavesAsBefore : {B : Type 0} → (B → Type 0) → (B → Settings → Content → Type 0) →
+    (B → Settings → List Content → Type 0) → Gate B → Gate B → Type 0
+LeavesAsBefore trusted holds leaves old new = OfGate trusted holds old new (λ x.
+    (ys : List Content) → leaves (book_of old) (settings_of old) ys → leaves (book_of new) (settings_of old) ys)

@@ -40,9 +40,9 @@ pub fn program<F: Files + GateFiles + AllocGlobal, S: AsStr, R: Read, W: Write, 
     ensures done { result ≡ 0 → Obeys F.Led E.contents (map S.text words.now)
         (streams R.remaining W.contents input.old output.old)
         (streams R.remaining W.contents input.new output.new) errors.old errors.new }
-    ensures fault { result ≡ 1 → (fault : Fault) × FailsBy E.contents fault (map S.text words.now)
+    ensures fault { result ≡ 1 → (fault : Fault) × FailsBy F.Left E.contents W.contents fault (map S.text words.now)
         (streams R.remaining W.contents input.old output.old)
-        (streams R.remaining W.contents input.new output.new) errors.old errors.new }
+        (streams R.remaining W.contents input.new output.new) errors.old errors.new output.old output.new }
     ensures refused { is_refused (map S.text words.now) ≡ true → result ≡ 2 }
     ensures untouched { result ≡ 2 → (input.new ≡ input.old) × (output.new ≡ output.old) }
     ensures told { result ≡ 2 → may_be_refused (map S.text words.now) ≡ false

@@ -2,7 +2,7 @@
 ghost use Rattle.std.specs.Prelude.{◌≡◌, IfErr, IsErrOf, OnErr, OnOk};
 
 use crate::new_file;
-use crate::run::{Fault, asking, over_file};
+use crate::run::{Fault, Shown, over_file};
 use gate_sql::Migrated;
 use gate_types::config::Config;
 use gate_types::open_fault::OpenFault;
@@ -14,26 +14,29 @@ use std::net::Net;
 
 /// The gates' files of a machine, by their paths.
 pub trait GateFiles {
-    ghost use Rattle.std.specs.Prelude.{◌≡◌, ℕ, Bool, List, Option, IfErr, IfOk, OnOk, false, option_map};
+    ghost use Rattle.std.specs.Prelude.{◌≡◌, ℕ, Bool, List, Option, Err, IfErr, IfOk, OnOk, false};
     ghost use Rattle.sqlite.specs.State.{State};
     ghost use Rattle.gate_types.specs.Tap.{has_failed, inside};
-    ghost use Rattle.gated_cli.specs.Doing.{Announces, Delivers, Looks, Prints, beside, streams};
-    ghost use Rattle.gated_cli.specs.Ending.{AskingEnds, DeliveryEnds, HistoryEnds, IsOfMaking, LinesEnd};
-    ghost use Rattle.gated_cli.specs.Ending.{ServingEnds, StatusEnds};
-    ghost use Rattle.gated_cli.specs.OfFile.{ContentOf, DeliveriesOf, HistoryOf, MakesGate, PrintsOf, RepliesTo};
-    ghost use Rattle.gated_cli.specs.OfFile.{StatusOf};
-    ghost use Rattle.gated_cli.specs.OfFile.{Upgrades};
+    ghost use Rattle.gated_cli.specs.Blame.{BreaksTo, FileFails, IsNotShown, MakingFails, MigratingFails};
+    ghost use Rattle.gated_cli.specs.Doing.{Announces, Delivers, Shows, beside, streams};
+    ghost use Rattle.gated_cli.specs.Ending.{DeliveryEnds, IsOfMaking, ServingEnds, ShowingEnds, most_served};
+    ghost use Rattle.gated_cli.specs.OfFile.{MakesGate, PrintsOf, RepliesTo, TextOf, Upgrades};
     ghost use Rattle.gated_cli.specs.OverFile.{GoesOver, ServesOver};
     ghost use Rattle.gated_cli.specs.Telling.{TellsUpTo};
 
     // the file at this path was opened in one state and closed in another, and this is so of the two
     ghost Led: { List ℕ → (State → State → Type 0) → Type 0 };
 
+    // the file at this path couldn't be opened, and this is so; or it was opened in one state and given back to be closed
+    // in another, which succeeded or not, and this is so of the two
+    ghost Left: { List ℕ → Type 0 → (State → State → Type 0) → Type 0 };
+
     /// Makes the tables of a new gate in a file, which is made where it isn't there. `File` as for `SqlBook::create`,
     /// and where it can't be opened; `Store` where it can't be closed.
     fn make(&self, file: &str, config: &Config) -> Result<(), Fault>
         ensures made { OnOk result (Led file.now (MakesGate config.now)) }
-        ensures fault { IfErr result IsOfMaking };
+        ensures fault { IfErr result IsOfMaking }
+        ensures why { IfErr result (λ fault. MakingFails Left file.now config.now fault) };
 
     /// Answers each line of the input over the gate that a file keeps. `File` where the file isn't there or can't be
     /// opened, and as for `SqlBook::open`; `Read`, `Write` and `NoMemory` as for `replay`; `Store` where all is
@@ -55,72 +58,30 @@ pub trait GateFiles {
             (streams R.remaining W.contents input.new output.new))) }
         ensures err { IfErr result (λ fault. DeliveryEnds fault
             (streams R.remaining W.contents input.old output.old)
-            (streams R.remaining W.contents input.new output.new)) };
+            (streams R.remaining W.contents input.new output.new)) }
+        ensures why { IfErr result (λ fault. FileFails Left file.now config fault (BreaksTo config fault
+            (streams R.remaining W.contents input.old output.old)
+            (streams R.remaining W.contents input.new output.new))) };
 
-    /// Prints the status text of the gate that a file keeps. `File` as for `deliver`; `Unavailable` and `Write` as for
-    /// `showing::write_status`; `Store` where it is printed and the file can't be closed.
-    fn status<W: Write>(&self, file: &str, config: Config, output: &mut Tap<W>) -> Result<(), Fault>
-        requires { has_failed output.old ≡ false }
-        ensures ok { OnOk result ((left : Option (List ℕ)) → (failed : Bool) → Prints
-            (beside W.contents left failed output.old) (beside W.contents left failed output.new)) }
-        ensures made { OnOk result (Led file.now (PrintsOf config StatusOf
-            (W.contents (inside output.old)) (W.contents (inside output.new)))) }
-        ensures err { IfErr result (λ fault. (left : Option (List ℕ)) → (failed : Bool) → StatusEnds fault
-            (beside W.contents left failed output.old) (beside W.contents left failed output.new)) };
-
-    /// Prints the history text of a queue of the gate that a file keeps. `File` as for `deliver`; `NoQueue`,
-    /// `Unavailable`, `Store` and `Write` as for `showing::write_history`; `Store` also where it is printed and the
-    /// file can't be closed.
-    fn history<W: Write>(
+    /// Prints a text of the gate that a file keeps. `File` as for `deliver`; else as for `showing::write_shown`; `Store`
+    /// also where all is printed and the file can't be closed.
+    fn show<W: Write>(
         &self,
         file: &str,
         config: Config,
-        queue: &str,
+        shown: Shown<'_>,
         output: &mut Tap<W>,
     ) -> Result<(), Fault>
         requires { has_failed output.old ≡ false }
-        ensures ok { OnOk result ((left : Option (List ℕ)) → (failed : Bool) → Looks
+        ensures ok { OnOk result ((left : Option (List ℕ)) → (failed : Bool) → Shows shown.entry
             (beside W.contents left failed output.old) (beside W.contents left failed output.new)) }
-        ensures made { OnOk result (Led file.now (PrintsOf config (HistoryOf queue.now)
+        ensures made { OnOk result (Led file.now (PrintsOf config (TextOf shown.entry)
             (W.contents (inside output.old)) (W.contents (inside output.new)))) }
-        ensures err { IfErr result (λ fault. (left : Option (List ℕ)) → (failed : Bool) → HistoryEnds fault
-            (beside W.contents left failed output.old) (beside W.contents left failed output.new)) };
-
-    /// Prints a line for each delivery that the gate of a file accepted, or for each behind that of an id. `File` as
-    /// for `deliver`; `NoDelivery`, `Unavailable`, `Store` and `Write` as for `showing::write_deliveries`; `Store` also
-    /// where all are printed and the file can't be closed.
-    fn deliveries<W: Write>(
-        &self,
-        file: &str,
-        config: Config,
-        after: Option<&str>,
-        output: &mut Tap<W>,
-    ) -> Result<(), Fault>
-        requires { has_failed output.old ≡ false }
-        ensures ok { OnOk result ((left : Option (List ℕ)) → (failed : Bool) → Looks
+        ensures err { IfErr result (λ fault. (left : Option (List ℕ)) → (failed : Bool) →
+            ShowingEnds shown.entry fault
             (beside W.contents left failed output.old) (beside W.contents left failed output.new)) }
-        ensures made { OnOk result (Led file.now (PrintsOf config (DeliveriesOf (option_map (λ s. s.now) after.entry))
-            (W.contents (inside output.old)) (W.contents (inside output.new)))) }
-        ensures err { IfErr result (λ fault. (left : Option (List ℕ)) → (failed : Bool) → LinesEnd fault
-            (beside W.contents left failed output.old) (beside W.contents left failed output.new)) };
-
-    /// Prints the content of what `GET` of a path would be answered by the gate that a file keeps. `File` as for
-    /// `deliver`; `Refused`, `Store`, `Write` and `NoMemory` as for `showing::write_content`; `Store` also where it is
-    /// printed and the file can't be closed.
-    fn get<W: Write>(
-        &self,
-        file: &str,
-        config: Config,
-        path: &str,
-        output: &mut Tap<W>,
-    ) -> Result<(), Fault>
-        requires { has_failed output.old ≡ false }
-        ensures ok { OnOk result ((left : Option (List ℕ)) → (failed : Bool) → Looks
-            (beside W.contents left failed output.old) (beside W.contents left failed output.new)) }
-        ensures made { OnOk result (Led file.now (PrintsOf config (ContentOf path.now)
-            (W.contents (inside output.old)) (W.contents (inside output.new)))) }
-        ensures err { IfErr result (λ fault. (left : Option (List ℕ)) → (failed : Bool) → AskingEnds fault
-            (beside W.contents left failed output.old) (beside W.contents left failed output.new)) };
+        ensures why { IfErr result (λ fault. FileFails Left file.now config fault
+            (IsNotShown config shown.entry W.contents output.old output.new fault)) };
 
     /// Prints the line that names the port, then serves so many connections there over the gate that a file keeps.
     /// `File` as for `deliver`; `Listener` where the port can't be bound, and nothing is printed, or where a connection
@@ -142,20 +103,27 @@ pub trait GateFiles {
             (beside W.contents left failed output.old) (beside W.contents left failed output.new)) }
         ensures made { OnOk result (Led file.now (λ old new. GoesOver old new config (ServesOver new config count))) }
         ensures err { IfErr result (λ fault. (left : Option (List ℕ)) → (failed : Bool) → ServingEnds port fault
-            (beside W.contents left failed output.old) (beside W.contents left failed output.new)) };
+            (beside W.contents left failed output.old) (beside W.contents left failed output.new)) }
+        ensures why { IfErr result (λ fault. FileFails Left file.now config fault
+            (λ old new. GoesOver old new config (ServesOver new config (most_served (Err fault) count)))) };
 
     /// Makes a file of schema 1 one of schema 2. `File` where the file isn't there or can't be opened, and as for
     /// `gate_sql::migrate`; `Store` where it can't be closed.
     fn migrate(&self, file: &str, config: &Config) -> Result<Migrated, Fault>
         ensures made { IfOk result (λ done. Led file.now (Upgrades config.now done)) }
-        ensures fault { IfErr result IsOfMaking };
+        ensures fault { IfErr result IsOfMaking }
+        ensures why { IfErr result (λ fault. MigratingFails Left file.now config.now fault) };
 }
 
 impl<S: Alter + Drop, M: Databases<Database = Connection<S>> + Net + AllocGlobal> GateFiles for M {
+    ghost use Rattle.std.specs.Prelude.{◌⊎◌};
     ghost use Rattle.sqlite.specs.Held.{Held, state};
 
     ghost Led = { λ path P. (old : Held S) × (new : Held S) × M.IsOf old path × M.IsClosed new
         × P (state S.Store old) (state S.Store new) };
+
+    ghost Left = { λ path U P. (M.IsUnopened path × U) ⊎ ((old : Held S) × (new : Held S) × M.IsOf old path
+        × M.IsGivenBack new × P (state S.Store old) (state S.Store new)) };
 
     fn make(&self, file: &str, config: &Config) -> Result<(), Fault> {
         let conn = self.fresh(file)?;
@@ -175,50 +143,15 @@ impl<S: Alter + Drop, M: Databases<Database = Connection<S>> + Net + AllocGlobal
         closed(self.close(conn), done)
     }
 
-    fn status<W: Write>(
+    fn show<W: Write>(
         &self,
         file: &str,
         config: Config,
+        shown: Shown<'_>,
         output: &mut Tap<W>,
     ) -> Result<(), Fault> {
         let conn = self.present(file)?;
-        let (conn, done) = over_file::status(self.alloc(), conn, config, output);
-        closed(self.close(conn), done)
-    }
-
-    fn history<W: Write>(
-        &self,
-        file: &str,
-        config: Config,
-        queue: &str,
-        output: &mut Tap<W>,
-    ) -> Result<(), Fault> {
-        let conn = self.present(file)?;
-        let (conn, done) = over_file::history(self.alloc(), conn, config, queue, output);
-        closed(self.close(conn), done)
-    }
-
-    fn deliveries<W: Write>(
-        &self,
-        file: &str,
-        config: Config,
-        after: Option<&str>,
-        output: &mut Tap<W>,
-    ) -> Result<(), Fault> {
-        let conn = self.present(file)?;
-        let (conn, done) = asking::deliveries(self.alloc(), conn, config, after, output);
-        closed(self.close(conn), done)
-    }
-
-    fn get<W: Write>(
-        &self,
-        file: &str,
-        config: Config,
-        path: &str,
-        output: &mut Tap<W>,
-    ) -> Result<(), Fault> {
-        let conn = self.present(file)?;
-        let (conn, done) = asking::get(self.alloc(), conn, config, path, output);
+        let (conn, done) = over_file::show(self.alloc(), conn, config, shown, output);
         closed(self.close(conn), done)
     }
 
@@ -245,9 +178,8 @@ impl<S: Alter + Drop, M: Databases<Database = Connection<S>> + Net + AllocGlobal
 
 /// The databases of a machine, by the paths of their files.
 pub trait Databases {
-    ghost use Rattle.std.specs.Prelude.{◌≡◌, ℕ, List, IfErr, IfOk, OnOk};
+    ghost use Rattle.std.specs.Prelude.{◌≡◌, ◌⊎◌, ℕ, List, IfErr, IfOk, OnErr, OnOk};
     ghost use Rattle.gate_types.specs.declared.open_fault.OpenFault.{OpenFault};
-    ghost use Rattle.gated_cli.specs.Ending.{IsOfFile};
 
     /// An open database.
     type Database;
@@ -255,27 +187,38 @@ pub trait Databases {
     // this is the database of the file at that path, in the state in which it was opened
     ghost IsOf: { Self.Database → List ℕ → Type 0 };
 
-    // this is a database in the state in which it was closed
+    // the file at that path couldn't be opened
+    ghost IsUnopened: { List ℕ → Type 0 };
+
+    // this is a database in the state in which it was given back to be closed
+    ghost IsGivenBack: { Self.Database → Type 0 };
+
+    // and one that was closed then
     ghost IsClosed: { Self.Database → Type 0 };
 
     /// The database of a file, which is made where it isn't there. `File` where it can't be opened.
     fn database(&self, file: &str) -> Result<Self::Database, Fault>
         ensures of { IfOk result (λ conn. IsOf conn file.now) }
-        ensures fault { IfErr result (λ f. f ≡ Fault.File OpenFault.Unavailable) };
+        ensures fault { IfErr result (λ f. f ≡ Fault.File OpenFault.Unavailable) }
+        ensures unopened { OnErr result (IsUnopened file.now) };
 
     /// The database of a file for a new gate: one of small pages is made where there is none. `File` where it can't be
     /// opened, or where it isn't there and another one's log is.
     fn fresh(&self, file: &str) -> Result<Self::Database, Fault>
         ensures of { IfOk result (λ conn. IsOf conn file.now) }
-        ensures fault { IfErr result IsOfFile };
+        ensures fault { IfErr result (λ f.
+            (f ≡ Fault.File OpenFault.Unavailable) ⊎ (f ≡ Fault.File OpenFault.WrongFile)) }
+        ensures unopened { OnErr result (IsUnopened file.now) };
 
     /// The database of a file that is there. `File` where it isn't, or can't be opened.
     fn present(&self, file: &str) -> Result<Self::Database, Fault>
         ensures of { IfOk result (λ conn. IsOf conn file.now) }
-        ensures fault { IfErr result (λ f. f ≡ Fault.File OpenFault.Unavailable) };
+        ensures fault { IfErr result (λ f. f ≡ Fault.File OpenFault.Unavailable) }
+        ensures unopened { OnErr result (IsUnopened file.now) };
 
     /// Closes a database. `Store` where it can't be.
     fn close(&self, conn: Self::Database) -> Result<(), Fault>
+        ensures given { IsGivenBack conn }
         ensures closed { OnOk result (IsClosed conn) }
         ensures fault { IfErr result (λ f. f ≡ Fault.Store) };
 }
@@ -287,6 +230,10 @@ impl Databases for HostRuntime {
 
     // the kit says nothing of paths
     ghost IsOf = { λ _ _. ⊤ };
+
+    ghost IsUnopened = { λ _. ⊤ };
+
+    ghost IsGivenBack = { λ _. ⊤ };
 
     ghost IsClosed = { λ _. ⊤ };
 

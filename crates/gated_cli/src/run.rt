@@ -1,30 +1,29 @@
 //! Does what a command line asks for.
-ghost use Rattle.std.specs.Prelude.{◌≡◌, ◌⊎◌, ◌≤◌, ℕ, List, [], ◌∷◌, ◌++◌, Option, Bool, OnOk, IfOk, IfErr, length};
-ghost use Rattle.std.specs.Prelude.{false, true, option_map};
+ghost use Rattle.std.specs.Prelude.{◌≡◌, ◌⊎◌, ◌≤◌, ℕ, List, [], ◌∷◌, ◌++◌, Option, Bool, Err, OnOk, IfOk, IfErr, length};
+ghost use Rattle.std.specs.Prelude.{false, true};
 ghost use Rattle.std.specs.Io.KnownBytes.{Appends};
 ghost use Rattle.gate_types.specs.Settings.{Settings};
 ghost use Rattle.gate_types.specs.Tap.{has_failed, inside};
 ghost use Rattle.gate_types.specs.Gated.{opened};
 ghost use Rattle.gate_migration.specs.declared.migrating.Migrated.{Migrated};
-ghost use Rattle.gated_cli.specs.Doing.{Does, Announces, Checks, Delivers, Looks, Migrates, Prints, Replays};
+ghost use Rattle.gated_cli.specs.Blame.{Blames, BreaksTo, Fails, FileFails, IsNotShown, MakingFails, MigratingFails};
+ghost use Rattle.gated_cli.specs.Doing.{Does, Announces, Checks, Delivers, Migrates, Replays, Shows};
 ghost use Rattle.gated_cli.specs.Doing.{HasSettings, beside, streams, settings_limit, migrated_text};
-ghost use Rattle.gated_cli.specs.Ending.{EndsBy, AskingEnds, CheckEnds, DeliveryEnds, HistoryEnds, LinesEnd};
-ghost use Rattle.gated_cli.specs.Ending.{MigrationEnds, ReplayEnds, ServingEnds, StatusEnds, IsEarly, IsOfMaking};
+ghost use Rattle.gated_cli.specs.Ending.{EndsBy, CheckEnds, DeliveryEnds, MigrationEnds, ReplayEnds, ServingEnds};
+ghost use Rattle.gated_cli.specs.Ending.{ShowingEnds, IsEarly, IsOfMaking, IsOfSettings, most_served};
 ghost use Rattle.gated_cli.specs.Ending.{TellsText};
 ghost use Rattle.gated_cli.specs.Faults.{line_of};
 ghost use Rattle.gated_cli.specs.InMemory.{IsGate};
-ghost use Rattle.gated_cli.specs.OfFile.{ContentOf, DeliveriesOf, HistoryOf, Made, MakesGate, PrintsOf, RepliesTo};
-ghost use Rattle.gated_cli.specs.OfFile.{StatusOf};
-ghost use Rattle.gated_cli.specs.OfFile.{Upgrades};
+ghost use Rattle.gated_cli.specs.OfFile.{Made, MakesGate, PrintsOf, RepliesTo, TextOf, Upgrades};
 ghost use Rattle.gated_cli.specs.OverFile.{GoesOver, ServesOver};
 ghost use Rattle.gated_cli.specs.Telling.{ToldBy, TellsBy, TellsUpTo};
 
-pub mod asking;
 mod check;
 mod fault;
 mod listening;
 pub mod over_file;
 mod showing;
+mod shown;
 
 use crate::machine::GateFiles;
 use crate::run::check::check_text;
@@ -41,6 +40,7 @@ use gate_types::config::Config;
 use gate_types::names::NoMemory;
 use gate_types::tap::Tap;
 use gated_command::Cmd;
+pub use shown::Shown;
 use std::alloc::Global;
 use std::fs;
 use std::io::{ErrorKind, Read, Write};
@@ -74,6 +74,9 @@ pub fn run<F: Files + GateFiles + AllocGlobal, R: Read, W: Write, E: Write>(
     ensures fault { result ≡ 1 → (fault : Fault)
         × TellsBy E.contents fault cmd.entry errors.old errors.new
         × EndsBy fault cmd.entry
+        (streams R.remaining W.contents input.old output.old)
+        (streams R.remaining W.contents input.new output.new)
+        × Blames F.Left W.contents fault cmd.entry output.old output.new
         (streams R.remaining W.contents input.old output.old)
         (streams R.remaining W.contents input.new output.new) }
 {
@@ -127,28 +130,31 @@ fn perform<F: Files + GateFiles + AllocGlobal, R: Read, W: Write, E: Write>(
     ensures err { IfErr result (λ fault. EndsBy fault cmd.entry
         (streams R.remaining W.contents input.old output.old)
         (streams R.remaining W.contents input.new output.new)) }
+    ensures why { IfErr result (λ fault. Blames F.Left W.contents fault cmd.entry output.old output.new
+        (streams R.remaining W.contents input.old output.old)
+        (streams R.remaining W.contents input.new output.new)) }
 {
     match cmd {
         Cmd::Check { settings } => run_check(rt, settings, output)?,
         Cmd::Init { settings, file } => run_init(rt, settings, file)?,
         Cmd::Replay { settings, status } => run_replay(rt, settings, status, input, output)?,
         Cmd::Deliver { settings, file } => run_deliver(rt, settings, file, input, output)?,
-        Cmd::Status { settings, file } => run_status(rt, settings, file, output)?,
+        Cmd::Status { settings, file } => run_show(rt, settings, file, Shown::Status, output)?,
         Cmd::History {
             settings,
             file,
             queue,
-        } => run_history(rt, settings, file, queue, output)?,
+        } => run_show(rt, settings, file, Shown::History(queue), output)?,
         Cmd::Deliveries {
             settings,
             file,
             after,
-        } => run_deliveries(rt, settings, file, after, output)?,
+        } => run_show(rt, settings, file, Shown::Deliveries(after), output)?,
         Cmd::Get {
             settings,
             file,
             path,
-        } => run_get(rt, settings, file, path, output)?,
+        } => run_show(rt, settings, file, Shown::Content(path), output)?,
         Cmd::Serve {
             settings,
             file,
@@ -222,6 +228,7 @@ fn run_init<F: Files + GateFiles + AllocGlobal>(
 ) -> Result<(), Fault>
     ensures made { OnOk result ((c : Settings) × HasSettings c × F.Led file.now (MakesGate c)) }
     ensures fault { IfErr result IsOfMaking }
+    ensures why { IfErr result (λ fault. Fails fault (λ c. MakingFails F.Left file.now c fault)) }
 {
     let config = settings_of(rt, settings)?;
     rt.make(file, &config)
@@ -246,89 +253,34 @@ fn run_deliver<F: Files + GateFiles + AllocGlobal, R: Read, W: Write>(
     ensures err { IfErr result (λ fault. DeliveryEnds fault
         (streams R.remaining W.contents input.old output.old)
         (streams R.remaining W.contents input.new output.new)) }
+    ensures why { IfErr result (λ fault. Fails fault (λ c. FileFails F.Left file.now c fault (BreaksTo c fault
+        (streams R.remaining W.contents input.old output.old)
+        (streams R.remaining W.contents input.new output.new)))) }
 {
     let config = settings_of(rt, settings)?;
     rt.deliver(file, config, input, output)
 }
 
-/// Prints the status of the gate that a file keeps.
-fn run_status<F: Files + GateFiles + AllocGlobal, W: Write>(
+/// Prints a text of the gate that a file keeps.
+fn run_show<F: Files + GateFiles + AllocGlobal, W: Write>(
     rt: &F,
     settings: &str,
     file: &str,
+    shown: Shown<'_>,
     output: &mut Tap<W>,
 ) -> Result<(), Fault>
     requires { has_failed output.old ≡ false }
-    ensures ok { OnOk result ((left : Option (List ℕ)) → (failed : Bool) → Prints
+    ensures ok { OnOk result ((left : Option (List ℕ)) → (failed : Bool) → Shows shown.entry
         (beside W.contents left failed output.old) (beside W.contents left failed output.new)) }
-    ensures made { OnOk result ((c : Settings) × HasSettings c × F.Led file.now (PrintsOf c StatusOf
+    ensures made { OnOk result ((c : Settings) × HasSettings c × F.Led file.now (PrintsOf c (TextOf shown.entry)
         (W.contents (inside output.old)) (W.contents (inside output.new)))) }
-    ensures err { IfErr result (λ fault. (left : Option (List ℕ)) → (failed : Bool) → StatusEnds fault
+    ensures err { IfErr result (λ fault. (left : Option (List ℕ)) → (failed : Bool) → ShowingEnds shown.entry fault
         (beside W.contents left failed output.old) (beside W.contents left failed output.new)) }
+    ensures why { IfErr result (λ fault. Fails fault (λ c. FileFails F.Left file.now c fault
+        (IsNotShown c shown.entry W.contents output.old output.new fault))) }
 {
     let config = settings_of(rt, settings)?;
-    rt.status(file, config, output)
-}
-
-/// Prints the history of a queue of the gate that a file keeps.
-fn run_history<F: Files + GateFiles + AllocGlobal, W: Write>(
-    rt: &F,
-    settings: &str,
-    file: &str,
-    queue: &str,
-    output: &mut Tap<W>,
-) -> Result<(), Fault>
-    requires { has_failed output.old ≡ false }
-    ensures ok { OnOk result ((left : Option (List ℕ)) → (failed : Bool) → Looks
-        (beside W.contents left failed output.old) (beside W.contents left failed output.new)) }
-    ensures made { OnOk result ((c : Settings) × HasSettings c × F.Led file.now (PrintsOf c (HistoryOf queue.now)
-        (W.contents (inside output.old)) (W.contents (inside output.new)))) }
-    ensures err { IfErr result (λ fault. (left : Option (List ℕ)) → (failed : Bool) → HistoryEnds fault
-        (beside W.contents left failed output.old) (beside W.contents left failed output.new)) }
-{
-    let config = settings_of(rt, settings)?;
-    rt.history(file, config, queue, output)
-}
-
-/// Prints the deliveries that the gate of a file accepted, or those behind that of an id.
-fn run_deliveries<F: Files + GateFiles + AllocGlobal, W: Write>(
-    rt: &F,
-    settings: &str,
-    file: &str,
-    after: Option<&str>,
-    output: &mut Tap<W>,
-) -> Result<(), Fault>
-    requires { has_failed output.old ≡ false }
-    ensures ok { OnOk result ((left : Option (List ℕ)) → (failed : Bool) → Looks
-        (beside W.contents left failed output.old) (beside W.contents left failed output.new)) }
-    ensures made { OnOk result ((c : Settings) × HasSettings c × F.Led file.now
-        (PrintsOf c (DeliveriesOf (option_map (λ s. s.now) after.entry))
-        (W.contents (inside output.old)) (W.contents (inside output.new)))) }
-    ensures err { IfErr result (λ fault. (left : Option (List ℕ)) → (failed : Bool) → LinesEnd fault
-        (beside W.contents left failed output.old) (beside W.contents left failed output.new)) }
-{
-    let config = settings_of(rt, settings)?;
-    rt.deliveries(file, config, after, output)
-}
-
-/// Prints what a request would be answered by the gate of a file.
-fn run_get<F: Files + GateFiles + AllocGlobal, W: Write>(
-    rt: &F,
-    settings: &str,
-    file: &str,
-    path: &str,
-    output: &mut Tap<W>,
-) -> Result<(), Fault>
-    requires { has_failed output.old ≡ false }
-    ensures ok { OnOk result ((left : Option (List ℕ)) → (failed : Bool) → Looks
-        (beside W.contents left failed output.old) (beside W.contents left failed output.new)) }
-    ensures made { OnOk result ((c : Settings) × HasSettings c × F.Led file.now (PrintsOf c (ContentOf path.now)
-        (W.contents (inside output.old)) (W.contents (inside output.new)))) }
-    ensures err { IfErr result (λ fault. (left : Option (List ℕ)) → (failed : Bool) → AskingEnds fault
-        (beside W.contents left failed output.old) (beside W.contents left failed output.new)) }
-{
-    let config = settings_of(rt, settings)?;
-    rt.get(file, config, path, output)
+    rt.show(file, config, shown, output)
 }
 
 /// Serves connections over the gate that a file keeps.
@@ -350,6 +302,8 @@ fn run_serve<F: Files + GateFiles + AllocGlobal, W: Write, E: Write>(
         GoesOver old new c (ServesOver new c count))) }
     ensures err { IfErr result (λ fault. (left : Option (List ℕ)) → (failed : Bool) → ServingEnds port fault
         (beside W.contents left failed output.old) (beside W.contents left failed output.new)) }
+    ensures why { IfErr result (λ fault. Fails fault (λ c. FileFails F.Left file.now c fault
+        (λ old new. GoesOver old new c (ServesOver new c (most_served (Err fault) count))))) }
 {
     let config = settings_of(rt, settings)?;
     rt.serve(file, config, port, count, output, errors)
@@ -370,6 +324,8 @@ fn run_migrate<F: Files + GateFiles + AllocGlobal, W: Write>(
         × F.Led file.now (Upgrades c done)) }
     ensures err { IfErr result (λ fault. (left : Option (List ℕ)) → (failed : Bool) → MigrationEnds fault
         (beside W.contents left failed output.old) (beside W.contents left failed output.new)) }
+    ensures why { IfErr result (λ fault. Fails fault (λ c. (fault ≡ Fault.Write)
+        ⊎ MigratingFails F.Left file.now c fault)) }
 {
     let config = settings_of(rt, settings)?;
     let done = rt.migrate(file, &config)?;
@@ -389,6 +345,7 @@ fn migrated_text(done: Migrated) -> &'static str
 fn settings_of<F: Files + GateFiles + AllocGlobal>(rt: &F, path: &str) -> Result<Config, Fault>
     ensures ok { IfOk result (λ config. HasSettings config) }
     ensures err { IfErr result IsEarly }
+    ensures why { IfErr result IsOfSettings }
 {
     let bytes = bytes_of(rt, path)?;
     Ok(gate_config::read(rt.alloc(), bytes.as_slice())?)
@@ -398,6 +355,7 @@ fn settings_of<F: Files + GateFiles + AllocGlobal>(rt: &F, path: &str) -> Result
 fn bytes_of<F: Files + GateFiles + AllocGlobal>(rt: &F, path: &str) -> Result<Vec<u8>, Fault>
     ensures ok { IfOk result (λ bytes. length bytes.items ≤ settings_limit) }
     ensures err { IfErr result IsEarly }
+    ensures why { IfErr result IsOfSettings }
 {
     let Ok(file) = fs::open(rt, path) else {
         return Err(Fault::SettingsFile);

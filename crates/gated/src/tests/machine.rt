@@ -14,11 +14,13 @@ pub struct Port<'a> {
     pub listener: &'a TcpListener,
 }
 
-/// The process's own, of which the reading of files may find no memory, and which may have one port alone.
+/// The process's own, of which the reading of files may find no memory, the closing of a gate's file may fail, and which
+/// may have one port alone.
 #[derive(Drop)]
 pub struct Machine<'a> {
     pub host: &'a HostRuntime,
     pub is_starved: bool,
+    pub closes: bool,
     pub port: Option<Port<'a>>,
 }
 
@@ -27,6 +29,7 @@ impl<'a> Machine<'a> {
         Self {
             host,
             is_starved: false,
+            closes: true,
             port: None,
         }
     }
@@ -165,6 +168,10 @@ impl Databases for Machine<'_> {
 
     ghost IsOf = { λ _ _. ⊤ };
 
+    ghost IsUnopened = { λ _. ⊤ };
+
+    ghost IsGivenBack = { λ _. ⊤ };
+
     ghost IsClosed = { λ _. ⊤ };
 
     fn database(&self, file: &str) -> Result<Connection<FileStore<File>>, Fault> {
@@ -180,6 +187,11 @@ impl Databases for Machine<'_> {
     }
 
     fn close(&self, conn: Connection<FileStore<File>>) -> Result<(), Fault> {
-        self.host.close(conn)
+        self.host.close(conn)?;
+        if self.closes {
+            Ok(())
+        } else {
+            Err(Fault::Store)
+        }
     }
 }

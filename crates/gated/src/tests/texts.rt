@@ -195,6 +195,7 @@ pub fn text_of(name: &str) -> Option<&'static str> {
         "two queues" => Some(TWO_QUEUES),
         "no site" => Some(NO_SITE),
         "schema 1" => Some(SCHEMA_1),
+        "a window below 0" => Some("UPDATE queue SET win = -1"),
         "high floor" => Some(HIGH_FLOOR),
         "no delivery" => Some("no delivery\n"),
         "approval" => Some(APPROVAL),

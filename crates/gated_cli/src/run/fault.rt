@@ -6,7 +6,7 @@ use gate_archive::FeedFault;
 use gate_book_trait::HistoryFault;
 use gate_config::ConfigFault;
 use gate_core::ReplayFault;
-use gate_http::{NotListening, RequestFault};
+use gate_http::RequestFault;
 use gate_types::open_fault::OpenFault;
 use gate_types::tap::Failed;
 use std::alloc::AllocError;
@@ -177,15 +177,5 @@ impl From<Failed> for Fault {
 
     fn from(_: Failed) -> Fault {
         Fault::Write
-    }
-}
-
-impl From<NotListening> for Fault {
-    ghost use Rattle.gated_cli.specs.declared.run.fault.Fault.TheVariants.{Listener};
-
-    ghost from_gives = { λ _ f. f ≡ Listener };
-
-    fn from(_: NotListening) -> Fault {
-        Fault::Listener
     }
 }

@@ -4,7 +4,7 @@ ghost use Rattle.gate_types.specs.Tap.{has_failed};
 ghost use Rattle.gate_core.specs.Held.{Goes};
 ghost use Rattle.gate_http.specs.Connections.{CalledOver};
 ghost use Rattle.gated_cli.specs.Doing.{Announces, IsPortFor, beside};
-ghost use Rattle.gated_cli.specs.Ending.{ServingEnds, IsOfServing};
+ghost use Rattle.gated_cli.specs.Ending.{ServingEnds, IsOfServing, most_served};
 ghost use Rattle.gated_cli.specs.Telling.{TellsUpTo};
 
 use crate::run::fault::Fault;
@@ -31,7 +31,7 @@ pub(crate) fn serve<M: Net + AllocGlobal, B: Archive, W: Write, E: Write>(
     requires writer { has_failed output.old ≡ false }
     requires teller { has_failed errors.old ≡ false }
     ensures gate { Goes B.IsTrusted B.Holds gate.old gate.new
-        (CalledOver B.LeavesOneOf count gate.old gate.new) }
+        (CalledOver B.LeavesOneOf (most_served result count) gate.old gate.new) }
     ensures told { TellsUpTo E.contents count errors.old errors.new }
     ensures ok { OnOk result ((left : Option (List ℕ)) → (failed : Bool) → Announces port
         (beside W.contents left failed output.old) (beside W.contents left failed output.new)) }
@@ -65,7 +65,7 @@ where
     requires writer { has_failed output.old ≡ false }
     requires teller { has_failed errors.old ≡ false }
     ensures gate { Goes B.IsTrusted B.Holds gate.old gate.new
-        (CalledOver B.LeavesOneOf count gate.old gate.new) }
+        (CalledOver B.LeavesOneOf (most_served result count) gate.old gate.new) }
     ensures told { TellsUpTo E.contents count errors.old errors.new }
     ensures ok { OnOk result ((left : Option (List ℕ)) → (failed : Bool) → Announces port
         (beside W.contents left failed output.old) (beside W.contents left failed output.new)) }
@@ -76,7 +76,7 @@ where
     announce(alloc, listener, port, output)?;
     match gate_http::serve(alloc, listener, gate, count, errors) {
         Ok(()) => Ok(()),
-        Err(fault) => Err(Fault::from(fault)),
+        Err(_) => Err(Fault::Listener),
     }
 }
 

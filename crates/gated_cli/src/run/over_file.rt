@@ -22,15 +22,16 @@ ghost use Rattle.gate_file_meta.specs.Opens.{IsJudged, IsMade, IsMeta, is_taken,
 ghost use Rattle.gate_migration.specs.Standing.{IsMigrated, is_newly_taken};
 ghost use Rattle.gate_migration.specs.Upgrade.{StandsForFirst};
 ghost use Rattle.gated_cli.specs.Doing.{Announces, beside};
-ghost use Rattle.gated_cli.specs.Ending.{IsOfFile, ServingEnds};
+ghost use Rattle.gated_cli.specs.Ending.{IsOfFile, ServingEnds, most_served};
 ghost use Rattle.gated_cli.specs.OverFile.{BreaksOver, GoesOver, IsOfServingOver, LeavesAfter, RepliesOver};
 ghost use Rattle.gated_cli.specs.OverFile.{ServesOver, StaysLawful, file_answer, file_fault};
-ghost use Rattle.gated_cli.specs.Showing.{WritesStatus, StopsStatus, WritesHistory, StopsHistory};
+ghost use Rattle.gated_cli.specs.Showing.{Writes, EndsWell, Stops};
 ghost use Rattle.gated_cli.specs.Telling.{TellsUpTo};
 
 use crate::run::fault::Fault;
 use crate::run::listening;
-use crate::run::showing::{write_history, write_status};
+use crate::run::showing::write_shown;
+use crate::run::shown::Shown;
 use gate_core::{Gate, replay};
 use gate_laws::adoption::adopted_content_is_lawful;
 use gate_laws::typed::settings_are_in_form;
@@ -200,17 +201,18 @@ pub fn deliver<S: Alter + Drop, R: Read, W: Write>(
     }
 }
 
-/// Prints the status text of the gate of the file, and hands the connection back.
-pub fn status<S: Alter + Drop, W: Write>(
+/// Prints a text of the gate of the file, and hands the connection back.
+pub fn show<S: Alter + Drop, W: Write>(
     alloc: Global,
     conn: Connection<S>,
     config: Config,
+    shown: Shown<'_>,
     output: &mut Tap<W>,
 ) -> (Connection<S>, Result<(), Fault>)
     requires { has_failed output.old ≡ false }
     ensures gate { file_fault result.1 ≡ None →
         GoesOver (state S.Store conn) (state S.Store result.0) config
-        (λ g after. (after ≡ g) × WritesStatus g W.contents output.old output.new result.1
+        (λ g after. (after ≡ g) × Writes shown.entry g W.contents output.old output.new result.1
         × LeavesAfter (state S.Store result.0) config g []) }
     // whether the file is opened is decided by the file alone
     ensures judged { (tables : _) (indexes : _) (views : _) (version kept : _) →
@@ -219,9 +221,8 @@ pub fn status<S: Alter + Drop, W: Write>(
         IsJudged (file_fault result.1) version kept config }
     ensures none { HasCleanDisk (state S.Store result.0) →
         IfSome (file_fault result.1) (IsRefused (state S.Store conn) (state S.Store result.0)) }
-    ensures ok { OnOk result.1 ((has_failed output.new ≡ false)
-        × (text : List ℕ) × Took W.contents output.old output.new text) }
-    ensures err { IfErr result.1 (StopsStatus W.contents output.old output.new) }
+    ensures ok { OnOk result.1 (EndsWell shown.entry W.contents output.old output.new) }
+    ensures err { IfErr result.1 (Stops shown.entry W.contents output.old output.new) }
 {
     stays_lawful(&config);
     let book = match SqlBook::open(alloc, conn, &config) {
@@ -229,40 +230,7 @@ pub fn status<S: Alter + Drop, W: Write>(
         Err((fault, conn)) => return (conn, Err(Fault::File(fault))),
     };
     let mut gate = Gate::new(config, book);
-    let done = write_status(alloc, &mut gate, output);
-    (gate.into_book().into_conn(), done)
-}
-
-/// Prints the history text of a queue of the gate of the file, and hands the connection back.
-pub fn history<S: Alter + Drop, W: Write>(
-    alloc: Global,
-    conn: Connection<S>,
-    config: Config,
-    queue: &str,
-    output: &mut Tap<W>,
-) -> (Connection<S>, Result<(), Fault>)
-    requires { has_failed output.old ≡ false }
-    ensures gate { file_fault result.1 ≡ None →
-        GoesOver (state S.Store conn) (state S.Store result.0) config
-        (λ g after. (after ≡ g) × WritesHistory g queue.now W.contents output.old output.new result.1
-        × LeavesAfter (state S.Store result.0) config g []) }
-    // whether the file is opened is decided by the file alone
-    ensures judged { (tables : _) (indexes : _) (views : _) (version kept : _) →
-        (state S.Store conn).now.schema ≡ with_meta tables indexes views →
-        IsMeta (state S.Store conn).now.trees version kept → HasCleanDisk (state S.Store result.0) →
-        IsJudged (file_fault result.1) version kept config }
-    ensures none { HasCleanDisk (state S.Store result.0) →
-        IfSome (file_fault result.1) (IsRefused (state S.Store conn) (state S.Store result.0)) }
-    ensures ok { OnOk result.1 (has_failed output.new ≡ false) }
-    ensures err { IfErr result.1 (StopsHistory output.old output.new) }
-{
-    stays_lawful(&config);
-    let book = match SqlBook::open(alloc, conn, &config) {
-        Ok(book) => book,
-        Err((fault, conn)) => return (conn, Err(Fault::File(fault))),
-    };
-    let mut gate = Gate::new(config, book);
-    let done = write_history(&mut gate, queue, output);
+    let done = write_shown(alloc, &mut gate, shown, output);
     (gate.into_book().into_conn(), done)
 }
 
@@ -279,10 +247,10 @@ pub fn serve<M: Net + AllocGlobal, S: Alter + Drop, W: Write, E: Write>(
 ) -> (Connection<S>, Result<(), Fault>)
     requires writer { has_failed output.old ≡ false }
     requires teller { has_failed errors.old ≡ false }
-    // each connection is at most one call
+    // each connection is at most one call; there is none before the line is printed
     ensures gate { file_fault result.1 ≡ None →
         GoesOver (state S.Store conn) (state S.Store result.0) config
-        (ServesOver (state S.Store result.0) config count) }
+        (ServesOver (state S.Store result.0) config (most_served result.1 count)) }
     // whether the file is opened is decided by the file alone, and not by the port
     ensures judged { (tables : _) (indexes : _) (views : _) (version kept : _) →
         (state S.Store conn).now.schema ≡ with_meta tables indexes views →

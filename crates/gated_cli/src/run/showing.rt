@@ -6,9 +6,10 @@ ghost use Rattle.gate_core.specs.Holding.{IsKeptGate};
 ghost use Rattle.gated_cli.specs.OverFile.{file_fault};
 ghost use Rattle.gated_cli.specs.Showing.{WritesStatus, StopsStatus, WritesHistory, StopsHistory, cursor};
 ghost use Rattle.gated_cli.specs.Showing.{lines_behind, lines_told, WritesLines, StopsLines, IsEndedBy};
-ghost use Rattle.gated_cli.specs.Showing.{WritesContent, StopsContent};
+ghost use Rattle.gated_cli.specs.Showing.{WritesContent, StopsContent, Writes, EndsWell, Stops, LeavesAsBefore};
 
 use crate::run::fault::Fault;
+use crate::run::shown::Shown;
 use gate_archive::{Archive, id_of};
 use gate_book_trait::Book;
 use gate_core::Gate;
@@ -96,6 +97,7 @@ fn write_behind<B: Archive, W: Write>(
     requires { has_failed output.old ≡ false }
     ensures gate { Goes B.IsTrusted B.Holds gate.old gate.new (λ g then. (then ≡ g)
         × WritesLines (lines_behind g (Ok after)) W.contents output.old output.new result) }
+    ensures crash { LeavesAsBefore B.IsTrusted B.Holds B.LeavesOneOf gate.old gate.new }
     ensures ok { OnOk result (has_failed output.new ≡ false) }
     ensures err { IfErr result (StopsLines output.old output.new) }
     ensures opened { file_fault result ≡ None }
@@ -121,6 +123,7 @@ pub(crate) fn write_deliveries<B: Archive, W: Write>(
     requires { has_failed output.old ≡ false }
     ensures gate { Goes B.IsTrusted B.Holds gate.old gate.new (λ g then. (then ≡ g)
         × WritesLines (lines_told g (option_map (λ s. s.now) after.entry)) W.contents output.old output.new result) }
+    ensures crash { LeavesAsBefore B.IsTrusted B.Holds B.LeavesOneOf gate.old gate.new }
     ensures ok { OnOk result (has_failed output.new ≡ false) }
     ensures err { IfErr result (StopsLines output.old output.new) }
     ensures opened { file_fault result ≡ None }
@@ -156,6 +159,7 @@ pub(crate) fn write_content<B: Archive, W: Write>(
     requires { has_failed output.old ≡ false }
     ensures gate { Goes B.IsTrusted B.Holds gate.old gate.new (λ g then. (then ≡ g)
         × WritesContent g path.now W.contents output.old output.new result) }
+    ensures crash { LeavesAsBefore B.IsTrusted B.Holds B.LeavesOneOf gate.old gate.new }
     ensures ok { OnOk result (has_failed output.new ≡ false) }
     ensures err { IfErr result (StopsContent output.old output.new) }
     ensures opened { file_fault result ≡ None }
@@ -163,5 +167,32 @@ pub(crate) fn write_content<B: Archive, W: Write>(
     match get_one(alloc, gate, path, output) {
         Ok(served) => ended_by(served),
         Err(fault) => Err(Fault::from(fault)),
+    }
+}
+
+/// Writes a text of a gate.
+///
+/// # Errors
+///
+/// Those of the function above that writes this text.
+pub(crate) fn write_shown<B: Archive, W: Write>(
+    alloc: Global,
+    gate: &mut Gate<B>,
+    shown: Shown<'_>,
+    output: &mut Tap<W>,
+) -> Result<(), Fault>
+    requires { has_failed output.old ≡ false }
+    ensures gate { Goes B.IsTrusted B.Holds gate.old gate.new (λ g then. (then ≡ g)
+        × Writes shown.entry g W.contents output.old output.new result) }
+    ensures crash { LeavesAsBefore B.IsTrusted B.Holds B.LeavesOneOf gate.old gate.new }
+    ensures ok { OnOk result (EndsWell shown.entry W.contents output.old output.new) }
+    ensures err { IfErr result (Stops shown.entry W.contents output.old output.new) }
+    ensures opened { file_fault result ≡ None }
+{
+    match shown {
+        Shown::Status => write_status(alloc, gate, output),
+        Shown::History(queue) => write_history(gate, queue, output),
+        Shown::Deliveries(after) => write_deliveries(gate, after, output),
+        Shown::Content(path) => write_content(alloc, gate, path, output),
     }
 }

@@ -9,4 +9,4 @@ returns-in_err-listener-clause-told g c =
 
 pub returns-in_err-listener-clause-gate : goal.returns-in_err-listener-clause-gate
 returns-in_err-listener-clause-gate g c =
-    uncalled g.B.Book.IsTrusted g.B.Book.Holds g.B.Book.LeavesOneOf c.args.count c.args.gate.now c.args.gate.now refl
+    uncalled g.B.Book.IsTrusted g.B.Book.Holds g.B.Book.LeavesOneOf _ c.args.gate.now c.args.gate.now refl

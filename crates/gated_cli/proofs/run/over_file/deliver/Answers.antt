@@ -6,6 +6,7 @@ use Rattle.gate_types.specs.Gated.{Gated}
 use Rattle.gate_core.proofs.ReplyLemmas.{goes_nowhere}
 use Rattle.gate_core.specs.Lines.{lines_of, whole_lines}
 use Rattle.gate_core.specs.Held.{CutOver, ReplayedOver}
+use Rattle.gate_core.specs.Holding.{book_of}
 use Rattle.gate_core.specs.Left.{LeavesBy}
 use Rattle.gate_core.specs.Replies.{calls_of_lines}
 use Rattle.gate_sql.specs.Refused.{IsRefused}
@@ -26,7 +27,7 @@ returns-in-Ok-done-clause-ok g c =
     let opened = state g.S.Store c.in-Ok.book.conn in
     let over = goes_over_live (λ book. state g.S.Store book.conn) (λ book k x. HoldsFor (state g.S.Store book.conn) book.queues.items k x)
     (λ book k ys. LeavesFor (state g.S.Store book.conn) k ys) (λ book k x held. held.shows)
-    (state g.S.Store c.args.conn) c.args.config c.in-Ok.book c.filled-live.result c.new-gate.result c.replay-done.new.gate P (Q (state g.S.Store c.replay-done.new.gate.book.book.conn))
+    (state g.S.Store c.args.conn) c.args.config c.in-Ok.book c.filled-live.result c.new-gate.result c.replay-done.new.gate P (Q (state g.S.Store (book_of c.replay-done.new.gate).book.conn))
     c.new-gate.ensures.config c.stays_lawful.ensures c.filled-live.ensures.trusted c.filled-live.ensures.holds c.filled-live.ensures.leaves c.new-gate.ensures.book c.new-gate.ensures.holds
     (λ clean gate file. opens_to (λ x. HasCleanDisk opened → HoldsFor opened c.in-Ok.book.queues.items c.args.config x) (state g.S.Store c.args.conn) c.args.config gate c.in-Ok.ensures.opens c.in-Ok.ensures.adopts file clean)
     (λ clean gate file. opened_leaves (state g.S.Store c.args.conn) opened c.args.config gate
@@ -52,9 +53,9 @@ returns-in-Err-done-clause-judged g c tables indexes views version kept schema m
     let last = c.into_conn-conn.ensures ∙ ap (λ book. book.conn) (c.into_book-2.ensures ∙ ap (λ cached. cached.book) c.into_book.ensures) in
     let said = c.in-Err-done.ensures in
     let after = subst (λ conn. HasCleanDisk (state g.S.Store conn)) last clean in
-    let before = of_each (HasCleanDisk (state g.S.Store c.new-gate.result.book.book.conn)) c.in-Err-done.fault
+    let before = of_each (HasCleanDisk (state g.S.Store (book_of c.new-gate.result).book.conn)) c.in-Err-done.fault
     (λ e. (said.read e).4.trusted_before after) (λ e. (said.write e).5.trusted_before after)
-    (λ e. subst (λ gate. HasCleanDisk (state g.S.Store gate.book.book.conn)) (said.memory e).0 after) in
+    (λ e. subst (λ cached. HasCleanDisk (state g.S.Store cached.book.conn)) (ap book_of (said.memory e).0) after) in
     let opened = c.filled-live.ensures.trusted
     (subst (λ cached. HasCleanDisk (state g.S.Store cached.book.conn)) c.new-gate.ensures.book before) in
     subst (λ f. IsJudged f version kept c.args.config) (sym (no_replay_fault c.in-Err-done.fault c.from.result c.from.ensures))
@@ -74,7 +75,7 @@ returns-in-Err-done-clause-read g c e =
     let opened = state g.S.Store c.in-Ok.book.conn in
     let over = goes_over_live (λ book. state g.S.Store book.conn) (λ book k x. HoldsFor (state g.S.Store book.conn) book.queues.items k x)
     (λ book k ys. LeavesFor (state g.S.Store book.conn) k ys) (λ book k x held. held.shows)
-    (state g.S.Store c.args.conn) c.args.config c.in-Ok.book c.filled-live.result c.new-gate.result c.replay-done.new.gate P (Q (state g.S.Store c.replay-done.new.gate.book.book.conn))
+    (state g.S.Store c.args.conn) c.args.config c.in-Ok.book c.filled-live.result c.new-gate.result c.replay-done.new.gate P (Q (state g.S.Store (book_of c.replay-done.new.gate).book.conn))
     c.new-gate.ensures.config c.stays_lawful.ensures c.filled-live.ensures.trusted c.filled-live.ensures.holds c.filled-live.ensures.leaves c.new-gate.ensures.book c.new-gate.ensures.holds
     (λ clean gate file. opens_to (λ x. HasCleanDisk opened → HoldsFor opened c.in-Ok.book.queues.items c.args.config x) (state g.S.Store c.args.conn) c.args.config gate c.in-Ok.ensures.opens c.in-Ok.ensures.adopts file clean)
     (λ clean gate file. opened_leaves (state g.S.Store c.args.conn) opened c.args.config gate
@@ -96,7 +97,7 @@ returns-in-Err-done-clause-write g c e =
     let opened = state g.S.Store c.in-Ok.book.conn in
     let over = goes_over_live (λ book. state g.S.Store book.conn) (λ book k x. HoldsFor (state g.S.Store book.conn) book.queues.items k x)
     (λ book k ys. LeavesFor (state g.S.Store book.conn) k ys) (λ book k x held. held.shows)
-    (state g.S.Store c.args.conn) c.args.config c.in-Ok.book c.filled-live.result c.new-gate.result c.replay-done.new.gate P (Q (state g.S.Store c.replay-done.new.gate.book.book.conn))
+    (state g.S.Store c.args.conn) c.args.config c.in-Ok.book c.filled-live.result c.new-gate.result c.replay-done.new.gate P (Q (state g.S.Store (book_of c.replay-done.new.gate).book.conn))
     c.new-gate.ensures.config c.stays_lawful.ensures c.filled-live.ensures.trusted c.filled-live.ensures.holds c.filled-live.ensures.leaves c.new-gate.ensures.book c.new-gate.ensures.holds
     (λ clean gate file. opens_to (λ x. HasCleanDisk opened → HoldsFor opened c.in-Ok.book.queues.items c.args.config x) (state g.S.Store c.args.conn) c.args.config gate c.in-Ok.ensures.opens c.in-Ok.ensures.adopts file clean)
     (λ clean gate file. opened_leaves (state g.S.Store c.args.conn) opened c.args.config gate
@@ -119,7 +120,7 @@ returns-in-Err-done-clause-memory g c e =
     let opened = state g.S.Store c.in-Ok.book.conn in
     let over = goes_over_live (λ book. state g.S.Store book.conn) (λ book k x. HoldsFor (state g.S.Store book.conn) book.queues.items k x)
     (λ book k ys. LeavesFor (state g.S.Store book.conn) k ys) (λ book k x held. held.shows)
-    (state g.S.Store c.args.conn) c.args.config c.in-Ok.book c.filled-live.result c.new-gate.result c.replay-done.new.gate P (Q (state g.S.Store c.replay-done.new.gate.book.book.conn))
+    (state g.S.Store c.args.conn) c.args.config c.in-Ok.book c.filled-live.result c.new-gate.result c.replay-done.new.gate P (Q (state g.S.Store (book_of c.replay-done.new.gate).book.conn))
     c.new-gate.ensures.config c.stays_lawful.ensures c.filled-live.ensures.trusted c.filled-live.ensures.holds c.filled-live.ensures.leaves c.new-gate.ensures.book c.new-gate.ensures.holds
     (λ clean gate file. opens_to (λ x. HasCleanDisk opened → HoldsFor opened c.in-Ok.book.queues.items c.args.config x) (state g.S.Store c.args.conn) c.args.config gate c.in-Ok.ensures.opens c.in-Ok.ensures.adopts file clean)
     (λ clean gate file. opened_leaves (state g.S.Store c.args.conn) opened c.args.config gate

@@ -3,7 +3,7 @@ use Rattle.std.specs.Prelude.{Ok}
 use Rattle.gate_archive.specs.Writes.{LeavesFeed}
 use Rattle.gate_core.specs.Held.{Goes}
 use Rattle.gated_cli.specs.Showing.{LeavesLines, lines_behind, most_told}
-use Rattle.gated_cli.proofs.AskLemmas.{goes_asked, lines_left}
+use Rattle.gated_cli.proofs.AskLemmas.{goes_asked, kept_leaves, lines_left}
 use Rattle.gated_cli.proofs.run.showing.write_behind.Goals as goal
 
 pub returns-in-Err-clause-gate : goal.returns-in-Err-clause-gate
@@ -19,3 +19,11 @@ returns-in-Err-clause-gate g c =
     (goes_asked trusted holds g.B.Book.LeavesOneOf c.args.gate.now c.deliveries.new.self
     (λ x. LeavesFeed x.kept after most_told [] held old new c.in-Err.fault) _
     c.in-Err.ensures.written c.in-Err.ensures.kept c.in-Err.ensures.settings (λ x. lines_left held old new x.content.kept after c.in-Err.fault))
+
+pub returns-in-Ok-clause-crash : goal.returns-in-Ok-clause-crash
+returns-in-Ok-clause-crash g c =
+    kept_leaves g.B.Book.IsTrusted g.B.Book.Holds g.B.Book.LeavesOneOf c.args.gate.now c.deliveries.new.self c.in-Ok.ensures.kept
+
+pub returns-in-Err-clause-crash : goal.returns-in-Err-clause-crash
+returns-in-Err-clause-crash g c =
+    kept_leaves g.B.Book.IsTrusted g.B.Book.Holds g.B.Book.LeavesOneOf c.args.gate.now c.deliveries.new.self c.in-Err.ensures.kept
