@@ -3,7 +3,8 @@
 # does those of `crates/*/must-fail`, which every `rt ci` tries. Run it for each crate whose contract or body you change.
 # What `rt ci` has proved on this machine isn't proved again, and a body that was refused over the same crate isn't tried
 # again. Fails if one is accepted, can't be applied or read, or wasn't tried. Lists those that say little of a contract:
-# refused only because a proof file names what the edit took away, or by a limit of the prover.
+# refused only because a proof file names what the edit took away, or by a limit of the prover. Those that no contract
+# refuses name a test that fails on them (`test:`): bench/tested.py tries these.
 set -eu
 top=$(cd "$(dirname "$0")/.." && pwd)
 [ $# -gt 0 ] || set -- $(ls "$top/bench/bodies")
@@ -14,6 +15,7 @@ cd "$top"
 tar -c --exclude='crates/*/out' --exclude='crates/*/must-fail' crates crates.txt HANDLES | tar -x -C "$work"
 for crate; do
     cp -R "$top/bench/bodies/$crate" "$work/crates/$crate/must-fail"
+    grep -l '^test: ' "$work/crates/$crate/must-fail"/* | xargs -r rm
 done
 cd "$work"
 git init -q

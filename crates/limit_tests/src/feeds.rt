@@ -1,5 +1,5 @@
-//! The 5,001 deliveries behind a history of 2,500 reports, as they are listed: at most 1,000 in one answer, and all of
-//! them to a program.
+//! The 20,001 deliveries behind a history of 10,000 reports, as they are listed: at most 1,000 in one answer, and all
+//! of them to a program.
 use crate::claims::{holds, is_long};
 use crate::exchanges::Exchanges;
 use gate_archive::{Archive, id_of};
@@ -9,28 +9,31 @@ use std::alloc::{AllocError, Global};
 use std::process::Abort;
 use std::str::from_utf8;
 
-/// The line of a revision.
-fn push_revision(text: &mut String, n: u32) -> Result<(), AllocError> {
+/// The line of the change.
+const COMES: &str =
+    "{\"change\":101,\"id\":\"0c000000000040008000000000000001\",\"kind\":\"revision\",\"message\":\"\",\"project\":\"lib\",\"revision\":1}\n";
+
+/// The line of an approval.
+fn push_approval(text: &mut String, n: u32) -> Result<(), AllocError> {
     write!(
         text,
-        "{{\"change\":101,\"id\":\"0a000000000040008000{n:012}\",\"kind\":\"revision\",\"message\":\"\",\"project\":\"lib\",\"revision\":{n}}}\n"
+        "{{\"change\":101,\"id\":\"0a000000000040008000{n:012}\",\"kind\":\"approved\",\"revision\":1}}\n"
     )
 }
 
-/// The lines of these revisions and of their approvals.
-fn told(alloc: Global, first: u32, last: u32) -> Result<String, AllocError> {
-    let mut text = String::new(alloc);
+/// The lines of these approvals, each with its withdrawal.
+fn push_told(text: &mut String, first: u32, last: u32) -> Result<(), AllocError> {
     for n in first..last.saturating_add(1) {
-        push_revision(&mut text, n)?;
+        push_approval(text, n)?;
         write!(
             text,
-            "{{\"change\":101,\"id\":\"0b000000000040008000{n:012}\",\"kind\":\"approved\",\"revision\":{n}}}\n"
+            "{{\"change\":101,\"id\":\"0b000000000040008000{n:012}\",\"kind\":\"withdrawn\",\"revision\":1}}\n"
         )?;
     }
-    Ok(text)
+    Ok(())
 }
 
-/// What is told from the first delivery on, from the 1,001st on, from the 4,501st on, and all.
+/// What is told from the first delivery on, from the 1,002nd on, from the 19,502nd on, and all.
 #[derive(Drop)]
 struct Feeds {
     first: String,
@@ -42,18 +45,21 @@ struct Feeds {
 /// The ids behind which the second and the last of these answers begin.
 const SECOND: &str = "0b000000-0000-4000-8000-000000000500";
 
-const LAST: &str = "0b000000-0000-4000-8000-000000002250";
+const LAST: &str = "0b000000-0000-4000-8000-000000009750";
 
 fn new_feeds(alloc: Global) -> Result<Feeds, AllocError> {
-    let mut first = told(alloc, 1, 500)?;
+    let mut first = String::from_str(alloc, COMES)?;
+    push_told(&mut first, 1, 499)?;
+    push_approval(&mut first, 500)?;
     first.push_str("end 1000\n")?;
-    let mut second = told(alloc, 501, 1_000)?;
+    let mut second = String::new(alloc);
+    push_told(&mut second, 501, 1_000)?;
     second.push_str("end 1000\n")?;
-    let mut last = told(alloc, 2_251, 2_500)?;
-    push_revision(&mut last, 2_501)?;
-    last.push_str("end 501\n")?;
-    let mut all = told(alloc, 1, 2_500)?;
-    push_revision(&mut all, 2_501)?;
+    let mut last = String::new(alloc);
+    push_told(&mut last, 9_751, 10_000)?;
+    last.push_str("end 500\n")?;
+    let mut all = String::from_str(alloc, COMES)?;
+    push_told(&mut all, 1, 10_000)?;
     Ok(Feeds {
         first,
         second,
@@ -81,7 +87,7 @@ fn has_feed<B: Archive>(
 fn has_all<B: Archive>(rt: &(impl Abort + AllocGlobal), gate: &mut Gate<B>, text: &str) {
     let mut w = Tap::new(Vec::new(rt.alloc()));
     let told = gate.deliveries(None, &mut w);
-    holds(rt, matches!(told, Ok(5_001)), "all deliveries");
+    holds(rt, matches!(told, Ok(20_001)), "all deliveries");
     let written = w.into_inner();
     let written = from_utf8(written.as_slice())
         .ok()

@@ -1,6 +1,7 @@
 //! Gates over a book in memory, and over the tables of a file in memory.
 use gate_book::MemBook;
 use gate_core::Gate;
+use gate_live::LiveBook;
 use gate_sql::SqlBook;
 use gate_types::config::Config;
 use sqlite::{Alter, Connection};
@@ -35,4 +36,16 @@ pub(crate) fn gate_in<S: Alter + Drop>(
 /// The connection that a gate was made over. A test ends a gate so: the end of a connection takes the prover less.
 pub(crate) fn conn_of<S: Alter + Drop>(gate: Gate<SqlBook<S>>) -> Connection<S> {
     gate.into_book().into_conn()
+}
+
+/// The gate of these settings in a file, with what is live of it in memory, as the program holds it.
+pub(crate) fn live_gate_in<S: Alter + Drop>(
+    rt: &(impl Abort + AllocGlobal),
+    conn: Connection<S>,
+    config: Config,
+) -> Gate<LiveBook<SqlBook<S>>> {
+    let book = SqlBook::open(rt.alloc(), conn, &config);
+    let mut live = LiveBook::new(rt.alloc(), book.ok().expect(rt, "a book"));
+    live.fill(&config).expect(rt, "what is live");
+    Gate::new(config, live)
 }

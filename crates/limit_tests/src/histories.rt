@@ -1,4 +1,4 @@
-//! A history of 2,500 reports, and the 5,001 deliveries by which it came.
+//! A history of 10,000 reports, and the 20,001 deliveries by which it came.
 use crate::claims::{holds, is_long};
 use crate::exchanges::{Exchanges, are_served};
 use crate::feeds;
@@ -12,29 +12,26 @@ use std::process::Abort;
 use std::str::from_utf8;
 
 /// How many reports there are.
-const REPORTS: u32 = 2_500;
+const REPORTS: u32 = 10_000;
 
-/// A revision of the change comes.
-fn push_revision(talk: &mut String, n: u32) -> Result<(), AllocError> {
-    write!(
-        talk,
-        "> {{\"id\":\"0a000000-0000-4000-8000-{n:012}\",\"kind\":\"revision\",\"change\":101,\"project\":\"lib\",\"revision\":{n},\"message\":\"\"}}\n\
-         < {{\"reply\":\"recorded\"}}\n"
-    )
-}
+/// The change comes.
+const COMES: &str =
+    r#"> {"id":"0c000000-0000-4000-8000-000000000001","kind":"revision","change":101,"project":"lib","revision":1,"message":""}
+< {"reply":"recorded"}
+"#;
 
-/// A change enters its queue, and leaves it as its next revision comes, again and again.
+/// A change enters its queue, and is withdrawn, again and again: of revisions it has 9,999 at most.
 fn talk(alloc: Global) -> Result<String, AllocError> {
-    let mut talk = String::new(alloc);
+    let mut talk = String::from_str(alloc, COMES)?;
     for n in 1..=REPORTS {
-        push_revision(&mut talk, n)?;
         write!(
             talk,
-            "> {{\"id\":\"0b000000-0000-4000-8000-{n:012}\",\"kind\":\"approved\",\"change\":101,\"revision\":{n}}}\n\
-             < {{\"order\":{n},\"reply\":\"queued\"}}\n"
+            "> {{\"id\":\"0a000000-0000-4000-8000-{n:012}\",\"kind\":\"approved\",\"change\":101,\"revision\":1}}\n\
+             < {{\"order\":{n},\"reply\":\"queued\"}}\n\
+             > {{\"id\":\"0b000000-0000-4000-8000-{n:012}\",\"kind\":\"withdrawn\",\"change\":101,\"revision\":1}}\n\
+             < {{\"reply\":\"removed\"}}\n"
         )?;
     }
-    push_revision(&mut talk, 2_501)?;
     Ok(talk)
 }
 
@@ -42,9 +39,9 @@ fn talk(alloc: Global) -> Result<String, AllocError> {
 fn history(alloc: Global, first: u32, last: u32) -> Result<String, AllocError> {
     let mut text = String::from_str(alloc, "history core\n")?;
     for n in first..last.saturating_add(1) {
-        write!(text, "{n:>6} {n:>6}       101 {n:>4} superseded      -\n")?;
+        write!(text, "{n:>6} {n:>6}       101    1 withdrawn       -\n")?;
     }
-    text.push_str("end 2500\n")?;
+    text.push_str("end 10000\n")?;
     Ok(text)
 }
 
@@ -54,7 +51,7 @@ struct Histories {
     all: String,
     from_1: String,
     from_1400: String,
-    from_2400: String,
+    from_9500: String,
 }
 
 fn new_histories(alloc: Global) -> Result<Histories, AllocError> {
@@ -62,7 +59,7 @@ fn new_histories(alloc: Global) -> Result<Histories, AllocError> {
         all: history(alloc, 1, REPORTS)?,
         from_1: history(alloc, 1, 1_000)?,
         from_1400: history(alloc, 1_400, 2_399)?,
-        from_2400: history(alloc, 2_400, REPORTS)?,
+        from_9500: history(alloc, 9_500, REPORTS)?,
     })
 }
 
@@ -92,7 +89,7 @@ pub(crate) fn plays<B: Archive>(rt: &(impl Abort + AllocGlobal), gate: &mut Gate
     has_history(rt, gate, None, histories.all.as_str());
     has_history(rt, gate, Some(1), histories.from_1.as_str());
     has_history(rt, gate, Some(1_400), histories.from_1400.as_str());
-    has_history(rt, gate, Some(2_400), histories.from_2400.as_str());
+    has_history(rt, gate, Some(9_500), histories.from_9500.as_str());
     feeds::plays(rt, gate);
 }
 
@@ -105,7 +102,7 @@ fn exchanges(alloc: Global) -> Result<Exchanges, AllocError> {
     exchanges.stream("/history/core", histories.all.as_str())?;
     exchanges.stream("/history/core/1", histories.from_1.as_str())?;
     exchanges.stream("/history/core/1400", histories.from_1400.as_str())?;
-    exchanges.stream("/history/core/2400", histories.from_2400.as_str())?;
+    exchanges.stream("/history/core/9500", histories.from_9500.as_str())?;
     feeds::ask(alloc, &mut exchanges)?;
     Ok(exchanges)
 }
@@ -117,16 +114,16 @@ pub(crate) fn serves<B: Archive>(rt: &(impl Abort + AllocGlobal), gate: &mut Gat
 }
 
 #[test]
-fn all_2_500_reports_and_5_001_deliveries_are_told_in_memory(rt: HostRuntime) {
+fn all_10_000_reports_and_20_001_deliveries_are_told_in_memory(rt: HostRuntime) {
     in_memory(&rt, Scene::History);
 }
 
 #[test]
-fn all_2_500_reports_and_5_001_deliveries_are_told_over_tables(rt: HostRuntime) {
+fn all_10_000_reports_and_20_001_deliveries_are_told_over_tables(rt: HostRuntime) {
     over_tables(&rt, Stored::Scene(Scene::History));
 }
 
 #[test]
-fn all_2_500_reports_and_5_001_deliveries_are_told_over_http(rt: HostRuntime) {
+fn all_10_000_reports_and_20_001_deliveries_are_told_over_http(rt: HostRuntime) {
     over_http(&rt, Asked::Scene(Scene::History));
 }

@@ -23,6 +23,8 @@ mod scenes;
 #[cfg(test)]
 mod settings;
 #[cfg(test)]
+mod sizes;
+#[cfg(test)]
 mod statuses;
 #[cfg(test)]
 mod streams;

@@ -14,7 +14,7 @@ use std::process::Abort;
 pub(crate) enum Scene {
     /// A change of each queue lands, under the largest settings.
     Largest,
-    /// There are 2,500 reports, and 5,001 deliveries.
+    /// There are 10,000 reports, and 20,001 deliveries.
     History,
     /// A status has 1,000 items.
     Status,

@@ -48,6 +48,72 @@ fn largest_text(alloc: Global) -> Result<String, AllocError> {
     Ok(text)
 }
 
+/// A name of 64 bytes, as long as one may be.
+pub(crate) fn long_name(alloc: Global, kind: &str, n: u32) -> Result<String, AllocError> {
+    format!(in alloc; "{kind}-{n:059}")
+}
+
+/// Adds a queue in which nothing is as by default.
+fn push_long_queue(alloc: Global, text: &mut String, n: u32) -> Result<(), AllocError> {
+    let name = long_name(alloc, "line", n)?;
+    write!(
+        text,
+        "[[queue]]\nname = \"{name}\"\nwindow = 1000\nfloor = 1000\n\
+         increase = \"exponential\"\nincrease_by = 1000\ndecrease = \"linear\"\ndecrease_by = 1000\n"
+    )
+}
+
+/// Adds a project with all its jobs, of which the first one alone votes.
+fn push_long_project(
+    alloc: Global,
+    text: &mut String,
+    n: u32,
+    queue: u32,
+) -> Result<(), AllocError> {
+    let name = long_name(alloc, "proj", n)?;
+    let queue = long_name(alloc, "line", queue)?;
+    write!(
+        text,
+        "[[project]]\nname = \"{name}\"\nqueue = \"{queue}\"\nfail_fast = true\n"
+    )?;
+    for job in 1..=JOBS {
+        let name = long_name(alloc, "work", job)?;
+        let voting = if job == 1 { "true" } else { "false" };
+        write!(
+            text,
+            "[[project.job]]\nname = \"{name}\"\nvoting = {voting}\n"
+        )?;
+    }
+    Ok(())
+}
+
+/// So many queues, with their projects, all under names of 64 bytes.
+pub(crate) fn longest_text(alloc: Global, queues: u32) -> Result<String, AllocError> {
+    let base = "b".repeat(alloc, 200)?;
+    let mut text = format!(in alloc; "[forge]\nbase = \"{base}\"\n")?;
+    for n in 1..queues.saturating_add(1) {
+        push_long_queue(alloc, &mut text, n)?;
+    }
+    for n in 0..queues.saturating_mul(PROJECTS_OF_A_QUEUE) {
+        let queue = (n / PROJECTS_OF_A_QUEUE).saturating_add(1);
+        push_long_project(alloc, &mut text, n.saturating_add(1), queue)?;
+    }
+    Ok(text)
+}
+
+/// The queues `core` and `web` without a bound, each with a project of all its jobs, `lib` and `site`, and in the first
+/// one `app` with the job `unit`.
+pub(crate) fn unbounded_text(alloc: Global) -> Result<String, AllocError> {
+    let mut text = String::from_str(alloc, FORGE)?;
+    text.push_str(
+        "[[queue]]\nname = \"core\"\nwindow = 0\nfloor = 1\n[[queue]]\nname = \"web\"\nwindow = 0\nfloor = 1\n\
+         [[project]]\nname = \"app\"\nqueue = \"core\"\n[[project.job]]\nname = \"unit\"\n",
+    )?;
+    push_project(&mut text, "lib", "core")?;
+    push_project(&mut text, "site", "web")?;
+    Ok(text)
+}
+
 fn many_jobs_text(alloc: Global) -> Result<String, AllocError> {
     let mut text = String::from_str(alloc, FORGE)?;
     text.push_str("[[queue]]\nname = \"core\"\nwindow = 2\nfloor = 1\n")?;
@@ -55,24 +121,22 @@ fn many_jobs_text(alloc: Global) -> Result<String, AllocError> {
     Ok(text)
 }
 
-const ONE_JOB: &str = r#"
-[forge]
-base = "https://forge/c/"
+/// The queue `core`, with a project `lib` that has one job.
+pub(crate) const ONE_JOB: &str = r#"
+forge = { base = "https://forge/c/" }
+queue = [{ name = "core", window = 2, floor = 1 }]
+project = [{ name = "lib", queue = "core", job = [{ name = "unit" }] }]
+"#;
 
-[[queue]]
-name = "core"
-window = 2
-floor = 1
-
-[[project]]
-name = "lib"
-queue = "core"
-[[project.job]]
-name = "unit"
+/// The queues `core` and `web`, with a project each, `lib` and `site`, that has one job.
+pub(crate) const TWO_QUEUES: &str = r#"
+forge = { base = "https://forge/c/" }
+queue = [{ name = "core", window = 2, floor = 1 }, { name = "web", window = 2, floor = 1 }]
+project = [{ name = "lib", queue = "core", job = [{ name = "unit" }] }, { name = "site", queue = "web", job = [{ name = "unit" }] }]
 "#;
 
 /// The settings of a file.
-fn config(rt: &(impl Abort + AllocGlobal), text: &str) -> Config {
+pub(crate) fn config(rt: &(impl Abort + AllocGlobal), text: &str) -> Config {
     read(rt.alloc(), text.as_bytes()).expect(rt, "settings")
 }
 

@@ -22,6 +22,81 @@ pub(crate) fn approvals(alloc: Global, changes: u32) -> Result<String, AllocErro
     Ok(talk)
 }
 
+/// A change of a project comes, with this message.
+pub(crate) fn push_change(
+    talk: &mut String,
+    n: u32,
+    project: &str,
+    message: &str,
+) -> Result<(), AllocError> {
+    write!(
+        talk,
+        "> {{\"id\":\"0a000000-0000-4000-8000-{n:012}\",\"kind\":\"revision\",\"change\":{n},\"project\":\"{project}\",\"revision\":1,\"message\":\"{message}\"}}\n\
+         < {{\"reply\":\"recorded\"}}\n"
+    )
+}
+
+/// A change is approved, and enters its queue under this order number.
+pub(crate) fn push_queued(talk: &mut String, n: u32, order: u32) -> Result<(), AllocError> {
+    write!(
+        talk,
+        "> {{\"id\":\"0b000000-0000-4000-8000-{n:012}\",\"kind\":\"approved\",\"change\":{n},\"revision\":1}}\n\
+         < {{\"order\":{order},\"reply\":\"queued\"}}\n"
+    )
+}
+
+/// A change is approved, and waits.
+pub(crate) fn push_waiting(talk: &mut String, n: u32) -> Result<(), AllocError> {
+    write!(
+        talk,
+        "> {{\"id\":\"0b000000-0000-4000-8000-{n:012}\",\"kind\":\"approved\",\"change\":{n},\"revision\":1}}\n\
+         < {{\"reply\":\"waiting\"}}\n"
+    )
+}
+
+/// What a worker is to build: this job of a change, on those from the first to the last before it.
+#[derive(Clone, Copy)]
+pub(crate) struct Given<'a> {
+    pub(crate) build: u32,
+    pub(crate) first: u32,
+    pub(crate) change: u32,
+    pub(crate) job: &'a str,
+    pub(crate) queue: &'a str,
+}
+
+/// A worker asks, and is given this build.
+pub(crate) fn push_take(talk: &mut String, given: Given<'_>) -> Result<(), AllocError> {
+    let Given {
+        build,
+        first,
+        change,
+        job,
+        queue,
+    } = given;
+    write!(
+        talk,
+        "> {{\"id\":\"0c000000-0000-4000-8000-{build:012}\",\"kind\":\"take\",\"worker\":\"w1\"}}\n\
+         < {{\"after\":0,\"ahead\":["
+    )?;
+    for n in first..change {
+        talk.push_str(if n == first { "" } else { "," })?;
+        write!(talk, "[{n},1]")?;
+    }
+    write!(
+        talk,
+        "],\"build\":{build},\"change\":{change},\"job\":\"{job}\",\"queue\":\"{queue}\",\"reply\":\"build\",\"revision\":1}}\n"
+    )
+}
+
+/// A build fails.
+pub(crate) fn push_failure(talk: &mut String, build: u32) -> Result<(), AllocError> {
+    write!(
+        talk,
+        "> {{\"id\":\"0d000000-0000-4000-8000-{build:012}\",\"kind\":\"result\",\"build\":{build},\"outcome\":\"failure\"}}\n\
+         < {{\"reply\":\"noted\"}}\n"
+    )
+}
+
 /// The lines behind this mark.
 fn marked(alloc: Global, talk: &str, mark: &str) -> Result<String, AllocError> {
     let mut lines = String::new(alloc);
