@@ -187,10 +187,10 @@ def read(top: Path, file: Path) -> Source:
 
 
 class Names:
-    """What is defined in a repository, and where each name of a file leads."""
+    """What is defined in a repository, in these folders and the code, and where each name of a file leads."""
 
-    def __init__(self, top: Path) -> None:
-        self.proofs = [read(top, it) for folder in ("specs", "proofs")
+    def __init__(self, top: Path, folders: tuple[str, ...] = ("specs", "proofs")) -> None:
+        self.proofs = [read(top, it) for folder in folders
                        for it in sorted(top.glob(f"crates/*/{folder}/**/*.antt"))]
         self.code = [read(top, it) for it in sorted(top.glob("crates/*/src/**/*.rt"))]
         self.modules = {it.module: it for it in self.proofs}
@@ -268,7 +268,7 @@ class Names:
             same = {it.full: group[0].full for group in groups for it in group}
 
     def text_of(self, it: Definition) -> list[str]:
-        """The words by which a definition is compared, none of them its name. None if it names a mere text or number."""
+        """Words by which a definition is compared, none of them its name. None if it names a mere text or number."""
         text, names = ["lemma" if it.is_lemma else it.name if it.is_short else "definition"], set[str]()
         for word, is_path in words(f"{it.within} {it.statement if it.is_lemma else it.text}"):
             full, fields = self.stands_for(it.file, word) if is_path else (word, "")

@@ -14,7 +14,7 @@ set -euo pipefail
 export LC_ALL=C TZ=UTC
 umask 022
 # What of the repository is in the archive, beside the program.
-parts=(README.md CHANGES.md companions docs examples)
+parts=(README.md CHANGES.md pyproject.toml .flake8 companions docs examples)
 place=crates/gated/out/gated
 top=$(cd "$(dirname "$0")/.." && pwd)
 given=$PWD

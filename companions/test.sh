@@ -1,19 +1,23 @@
 #!/bin/sh
-# Tests the companions: their units, days by seeds, and scenes in which one part is wrong and has to be found. The last
-# line counts, and the status is 0 only if nothing failed. GATED is the program, by default the one that `rt run`
-# leaves; SEEDS are the days' seeds, FORGE_SEEDS those of the days with a forge of each form, JOBS how many tests run
-# at once, by default one a processor and at most four, PATIENCE the seconds that one may take. RECORDED is a folder in
-# which the sources of recorded answers are kept for later runs; what can't be had of them is skipped, and the last line
-# says so.
+# Tests the companions: their types and names by Debian's mypy and flake8, their units, days by seeds, and scenes in
+# which one part is wrong and has to be found; and what bench/ checks of pages and code, which a release doesn't have.
+# The last line counts, and the status is 0 only if nothing failed. GATED is the program, by default the one that
+# `rt run` leaves; SEEDS are the days' seeds, FORGE_SEEDS those of the days with a forge of each form, JOBS how many
+# tests run at once, by default one a processor and at most four, PATIENCE the seconds that one may take. RECORDED is a
+# folder in which the sources of recorded answers are kept for later runs; what can't be had of them is skipped, and the
+# last line says so.
 set -u
 script=$(cd "$(dirname "$0")" && pwd)/$(basename "$0")
 cd "$(dirname "$script")/.."
 
-# Runs one test, a module of Python with its words, keeps what it says, and says how it ended.
+# Runs one test, a module of Python with its words, keeps what it says, and says how it ended. Debian's packages are
+# modules of its own Python.
 if [ "${1-}" = --one ]; then
   shift
+  python=python3
+  case $1 in mypy | flake8) python=${DEBIANS_PYTHON:-/usr/bin/python3} ;; esac
   name=$(printf '%s' "$*" | tr -c 'a-z0-9' _)
-  if timeout "${PATIENCE:-1200}" python3 -m "$@" >"$work/$name.said" 2>&1; then
+  if timeout "${PATIENCE:-1200}" "$python" -m "$@" >"$work/$name.said" 2>&1; then
     echo "passed: $*" >"$work/$name.end"
   else
     { echo "FAILED: $*" && tail -n 40 "$work/$name.said"; } >"$work/$name.end"
@@ -31,16 +35,17 @@ fi
 jobs=$(nproc)
 [ "$jobs" -le 4 ] || jobs=4
 work=$(mktemp -d)
-export work RECORDED="${RECORDED:-$work/recorded}"
+export work RECORDED="${RECORDED:-$work/recorded}" MYPY_CACHE_DIR="$work/mypy_cache"
 trap 'rm -rf "$work"' EXIT
 
+forms=$(sed -n 's/^FORMS = (\(.*\))$/\1/p' companions/settings.py | tr -d '",')
 # The longest first.
 {
   for seed in ${SEEDS:-1 2}; do
     echo "companions.tests.day $seed"
   done
   for seed in ${FORGE_SEEDS:-1}; do
-    for form in gitea github gitlab; do
+    for form in $forms; do
       echo "companions.tests.day $seed --forge $form"
     done
   done
@@ -51,8 +56,13 @@ trap 'rm -rf "$work"' EXIT
     "ci-trusts --forge github" "ci-strays --forge github"; do
     echo "companions.tests.day --turn $scene"
   done
+  echo mypy
+  echo flake8 companions
   for file in companions/tests/test_*.py; do
     echo "unittest companions.tests.$(basename "$file" .py)"
+  done
+  for file in bench/test_*.py; do
+    [ ! -e "$file" ] || echo "unittest bench.$(basename "$file" .py)"
   done
 } | xargs -P "${JOBS:-$jobs}" -L 1 sh "$script" --one
 
@@ -66,7 +76,7 @@ for said in "$work"/unittest*.said; do
   [ "${units:-0}" -ge "$bad" ] || units=$bad
   echo "$((units - bad)) $bad"
 done >"$work/counts"
-for end in "$work"/companions_tests_day*.end; do
+for end in "$work"/companions_tests_day*.end "$work"/mypy*.end "$work"/flake8*.end; do
   grep -q '^passed: ' "$end" && echo "1 0" || echo "0 1"
 done >>"$work/counts"
 skipped=$(sed -n 's/^skipped: //p' "$work"/*.said | sort -u | paste -s -d ';' - | sed 's/;/; /g')
