@@ -32,9 +32,10 @@ from pathlib import Path
 from companions import check_forge, check_git, check_gate, sandbox
 from companions.check_files import Files, compare, read_files
 from companions.check_forge import Unseen
+from companions.command_line import CommandLine
+from companions.reader import SettingsFault
 from companions.repository import GitFault, untested
-from companions.settings import Settings, SettingsFault, read
-from companions.starting import is_help
+from companions.settings import Settings, read
 
 PART = "check"
 USERS = ("gated", "gated-companions", "gated-worker")
@@ -295,13 +296,14 @@ def tell(found: list[str], where: str) -> int:
 
 
 def main(words: list[str]) -> int:
-    if is_help(words, __doc__):
-        return 0
-    if any(it.startswith("-") for it in words):
-        print("usage: python3 -m companions.check [gate.toml] companions.toml [worker.toml..]", file=sys.stderr)
-        return 2
-    if words:
-        found, faults = read_files(words)
+    line = CommandLine(PART, __doc__)
+    line.add_argument("files", nargs="*", metavar="FILE", help="files of settings, told apart by what is in them")
+    return line.run(words, lambda asked: begin(asked.files))
+
+
+def begin(files: list[str]) -> int:
+    if files:
+        found, faults = read_files(files)
         return tell([*faults, *around(found)], "the files and what they name")
     if os.geteuid() != 0:
         print(f"{PART}: run this as root: others can't read the settings. Or name the files: see --help",

@@ -23,21 +23,21 @@ from companions import sandbox, settings
 from companions.beating import Beating
 from companions.ci_hooks import serve_hooks
 from companions.ci_queue import CiQueue, Taken
+from companions.command_line import CommandLine
 from companions.faults import MACHINE, OtherSettings
 from companions.gate import Answer, Gate, expected, say
 from companions.lanes import Lane
 from companions.links import Links
 from companions.outbox import Notes
+from companions.reader import SettingsFault
 from companions.repository import GitFault, untested
 from companions.runs import Run
-from companions.settings import Settings, SettingsFault
-from companions.starting import alone, is_help
+from companions.settings import Settings
+from companions.starting import alone
 from companions.statuses import statuses_of
 from companions.trees import Trees
 from companions.wanted import Reply
-from companions.worker import IDLE, NAME
-
-USAGE = "usage: python3 -m companions.ci companions.toml NAME"
+from companions.worker import IDLE
 
 
 class Ci:
@@ -76,8 +76,8 @@ class Ci:
 
     def begin(self) -> None:
         """Goes on with what an earlier run has left."""
-        for it in self.trees.begin():
-            self.say(it)
+        for line in self.trees.begin():
+            self.say(line)
         for lane in self.lanes:
             # By the settings of now it may be a CI's.
             if lane.waits is not None:
@@ -268,18 +268,20 @@ def work(file: Path, name: str) -> int:
 
 
 def main(argv: list[str]) -> int:
-    if is_help(argv, __doc__):
-        return 0
-    if len(argv) != 2 or not NAME.fullmatch(argv[1]):
-        print(USAGE, file=sys.stderr)
-        return 2
+    line = CommandLine("ci", __doc__)
+    line.add_settings()
+    line.add_worker()
+    return line.run(argv, lambda asked: begin(asked.settings, asked.name))
+
+
+def begin(file: Path, name: str) -> int:
     while True:
         try:
-            return work(Path(argv[0]), argv[1])
+            return work(file, name)
         except OtherSettings:
-            say(f"ci {argv[1]}", "begins anew with the settings of now")
+            say(f"ci {name}", "begins anew with the settings of now")
         except (SettingsFault, GitFault, OSError, sqlite3.Error) as fault:
-            print(f"ci {argv[1]}: {fault}", file=sys.stderr)
+            print(f"ci {name}: {fault}", file=sys.stderr)
             return 1
         except KeyboardInterrupt:
             return 130

@@ -17,16 +17,19 @@ import uuid
 from collections.abc import Iterable, Mapping
 from contextlib import closing
 from dataclasses import asdict, dataclass, field
+from functools import partial
 from pathlib import Path
 from typing import Any
 
+from companions.command_line import CommandLine
 from companions.gate import Gate, NoAnswer, expected, say
 from companions.ids import revision_id, success_id
 from companions.landings import (Branch, Landed, Landing, Note, first_name, in_order, lines_of, note_name, places_of,
                                  text_of)
 from companions.merging import Merge
+from companions.reader import SettingsFault
 from companions.repository import REVISION, GitFault, Repository
-from companions.settings import Settings, SettingsFault, read
+from companions.settings import Settings, read
 
 # So many lines has an answer of the gate at most.
 PAGE = 1000
@@ -102,7 +105,7 @@ class Evidence:
                            f"+refs/landings/{self.queue}/*:refs/landings/{self.queue}/*")
             first = notes.get(first_name(self.queue))
             branches.append(Branch(project.name, repository, self.queue, tip, first and repository.commit(first),
-                                   lambda notes=notes: places_of(notes, self.queue)))
+                                   partial(places_of, notes, self.queue)))
         landings = in_order(lines_of(branches).values())
         if [it.place for it in landings] != list(range(1, len(landings) + 1)):
             places = ", ".join(str(it.place) for it in landings)[:200]
@@ -239,19 +242,18 @@ def last_line(queue: str, found: list[Found], file: Path | None) -> str:
     return f"{queue}: {holds} of {len(found)} landings hold; {by}"
 
 
-def arguments(given: list[str]) -> argparse.Namespace:
-    them = argparse.ArgumentParser(prog="companions.evidence", description="Checks what a queue has landed.")
-    them.add_argument("settings", type=Path, metavar="companions.toml")
-    them.add_argument("queue", metavar="QUEUE")
+def main(given: list[str]) -> int:
+    them = CommandLine("evidence", __doc__)
+    them.add_settings()
+    them.add_argument("queue", metavar="QUEUE", help="the queue that has landed them")
     them.add_argument("start", type=int, nargs="?", default=1, metavar="FROM", help="the first landing's place")
     them.add_argument("end", type=int, nargs="?", metavar="TO", help="the last landing's place")
     them.add_argument("--file", type=Path, metavar="COPY", help="a copy of the gate's file, for the jobs of each item")
-    them.add_argument("--json", action="store_true", help="prints JSON in place of lines")
-    return them.parse_intermixed_args(given)
+    them.add_argument("--json", action="store_true", help="print JSON in place of lines")
+    return them.run(given, begin)
 
 
-def main(given: list[str]) -> int:
-    asked = arguments(given)
+def begin(asked: argparse.Namespace) -> int:
     try:
         settings = read(asked.settings)
         if not settings.projects_of(asked.queue):

@@ -10,9 +10,10 @@ from __future__ import annotations
 import sys
 from pathlib import Path
 
+from companions.command_line import CommandLine
 from companions.gate import Gate, NoAnswer, say
-from companions.settings import SettingsFault, read
-from companions.starting import is_help
+from companions.reader import SettingsFault
+from companions.settings import read
 
 PART, MARK = "fence", "replaced"
 # Seconds that a start is held up at most: nobody answers where this machine is the gate's.
@@ -20,12 +21,14 @@ PATIENCE = 5.0
 
 
 def main(words: list[str]) -> int:
-    if is_help(words, __doc__):
-        return 0
-    if len(words) not in (1, 2) or words[1:] not in ([], ["ask"]):
-        print("usage: python3 -m companions.fence companions.toml [ask]", file=sys.stderr)
-        return 2
-    file = Path(words[0])
+    line = CommandLine(PART, __doc__)
+    line.add_settings()
+    line.add_argument("ask", nargs="?", choices=["ask"], metavar="ask", help="make no mark")
+    return line.run(words, lambda asked: status_of(asked.settings, marks=asked.ask is None))
+
+
+def status_of(file: Path, marks: bool) -> int:
+    """1 if the gate isn't to be started here, else 0."""
     if not file.exists():
         say(PART, f"{file} isn't there, so nobody is asked")
         return 0
@@ -45,7 +48,7 @@ def main(words: list[str]) -> int:
         return 0
     say(PART, f"another machine's gate answers at {settings.url}: this machine's isn't started. It is the standby now,"
               " or the name leads to the wrong machine")
-    if not words[1:]:
+    if marks:
         mark.touch()
     return 1
 

@@ -20,6 +20,7 @@ and 3 where the adapter hasn't answered within --wait seconds (60).
 """
 from __future__ import annotations
 
+import argparse
 import getpass
 import json
 import os
@@ -30,57 +31,63 @@ import uuid
 from collections.abc import Iterator
 from datetime import datetime, timezone
 from pathlib import Path
-from typing import Any
+from typing import Any, NoReturn
 
+from companions.command_line import CommandLine
+from companions.front import front_of
 from companions.gate import Gate, NoAnswer
 from companions.held import LONGEST, Hold, folder_in, make, own, read, write
-from companions.settings import Settings, SettingsFault
+from companions.reader import SettingsFault
+from companions.settings import Settings
 from companions.settings import read as read_settings
-from companions.starting import is_help
 
 ACTS = {"promote": 1, "dequeue": 1, "hold": 1, "resume": 1, "log": 0}
 LOG = "done.jsonl"
+SEE = "see 'python3 -m companions.operator --help'"
 
 
 class Wrong(Exception):
     """Why nothing is done."""
 
 
+class Words(CommandLine):
+    def error(self, message: str) -> NoReturn:
+        raise Wrong(f"{message}: {SEE}")
+
+
 def main(words: list[str]) -> int:
-    if is_help(words, __doc__):
-        return 0
+    line = Words("operator", __doc__)
+    line.add_settings()
+    line.add_argument("act", nargs="?", choices=ACTS, help="what is done")
+    line.add_argument("subject", nargs="*", default=[], metavar="N or QUEUE", help="to what")
+    line.add_argument("--yes", action="store_true", help="don't ask")
+    line.add_argument("--because", type=reason, metavar="TEXT", help="why it is held")
+    line.add_argument("--wait", type=seconds, default=60.0, metavar="SECONDS", help="how long an answer is awaited")
+
+    def begin(asked: argparse.Namespace) -> int:
+        if len(asked.subject) != ACTS.get(asked.act):
+            raise Wrong(SEE)
+        because = asked.because or ""
+        return act(read_settings(asked.settings), asked.act, asked.subject, asked.yes, because, asked.wait)
+
     try:
-        words, yes, because, wait = options(words)
-        if len(words) < 2 or words[1] not in ACTS or len(words) != 2 + ACTS[words[1]]:
-            raise Wrong("see 'python3 -m companions.operator --help'")
-        settings = read_settings(Path(words[0]))
-        return act(settings, words[1], words[2:], yes, because, wait)
+        return line.run(words, begin)
     except (Wrong, SettingsFault, NoAnswer, OSError, ValueError) as fault:
         print(f"operator: {fault}", file=sys.stderr)
         return 2 if isinstance(fault, (Wrong, SettingsFault)) else 1
 
 
-def options(words: list[str]) -> tuple[list[str], bool, str, float]:
-    """The words without the options, and these."""
-    left, yes, because, wait = [], False, "", 60.0
-    given = iter(words)
-    for it in given:
-        if it == "--yes":
-            yes = True
-        elif it == "--because":
-            because = next(given, "")
-            if not because or len(because) > LONGEST or not because.isprintable():
-                raise Wrong(f"--because wants a text of one line, of at most {LONGEST} characters")
-        elif it == "--wait":
-            try:
-                wait = max(0.0, float(next(given, "")))
-            except ValueError:
-                raise Wrong("--wait wants a number of seconds") from None
-        elif it.startswith("-"):
-            raise Wrong(f"{it} isn't known: see 'python3 -m companions.operator --help'")
-        else:
-            left.append(it)
-    return left, yes, because, wait
+def reason(word: str) -> str:
+    if not word or len(word) > LONGEST or not word.isprintable():
+        raise Wrong(f"--because wants a text of one line, of at most {LONGEST} characters")
+    return word
+
+
+def seconds(word: str) -> float:
+    try:
+        return max(0.0, float(word))
+    except ValueError:
+        raise Wrong("--wait wants a number of seconds") from None
 
 
 def act(settings: Settings, what: str, words: list[str], yes: bool, because: str, wait: float) -> int:
@@ -91,8 +98,8 @@ def act(settings: Settings, what: str, words: list[str], yes: bool, because: str
     if what in ("hold", "resume"):
         return hold(settings, what, words[0], yes, because)
     change = number_of(settings, words[0])
-    for it in shown(settings, what, change):
-        print(it)
+    for line in shown(settings, what, change):
+        print(line)
     if not yes and not is_wanted():
         print("operator: nothing is done")
         return 1
@@ -129,21 +136,22 @@ def shown(settings: Settings, what: str, change: int) -> Iterator[str]:
     if known is None:
         raise Wrong(f"the gate doesn't know change {change}")
     queue, order = known["queue"], known["order"]
-    items = next((it.items for it in gate.status().queues if it.name == queue), [])
-    landing = {it.order for it in gate.orders()}
+    items: list[list[str]] = next((it.items for it in gate.status().queues if it.name == queue), [])
     place = next((at for at, it in enumerate(items, 1) if int(it[1]) == change), None)
     stands = f"stands at place {place} of {len(items)} in {queue}" if order is not None else f"doesn't stand in {queue}"
     yield f"change {change}, revision {known['revision']}, {stands}"
     if what == "dequeue":
         yield f"it leaves {queue}, and needs a new approval"
         return
-    others = [int(it[1]) for it in items if int(it[0]) not in landing and int(it[1]) != change]
-    for it in items:
-        if int(it[0]) in landing:
-            yield f"change {it[1]} is being landed: it stays first"
+    front = front_of(gate, queue, change)
+    for it in front.landing:
+        yield f"change {it} is being landed: it stays first"
+    if front.stands and not front.others:
+        yield f"change {change} stands first in {queue} already, behind what it needs of it: nothing changes"
+        return
     yield f"change {change} goes first in {queue}, behind what it needs of it"
-    if others:
-        yield f"these follow, in this order, and lose their builds: {', '.join(map(str, others))}"
+    if front.others:
+        yield f"these follow, in this order, and lose their builds: {', '.join(str(it) for it, _ in front.others)}"
 
 
 def is_wanted() -> bool:
@@ -193,33 +201,48 @@ def hold(settings: Settings, what: str, queue: str, yes: bool, because: str) -> 
     """Holds a queue, or lets it go on."""
     if queue not in {it.queue for it in settings.projects.values()}:
         raise Wrong(f"no project of the settings has the queue {queue}")
-    try:
-        held = read(settings.folder)
-    except ValueError as fault:
-        print(f"operator: {fault}: it is written anew", file=sys.stderr)
-        held = {}
-    if (what == "resume") == (queue not in held):
+    held = known(settings.folder)
+    if held is not None and (what == "resume") == (queue not in held):
         print(f"{queue} {'is held already: ' + str(held[queue]) if what == 'hold' else 'is not held'}")
+        if last_act(settings.folder, queue) != what:
+            # Whoever did it was killed before its line.
+            note(settings.folder, what, queue, held[queue].why if what == "hold" else "")
         return 0
     print(f"{queue}: no approval is told and nothing lands until 'resume {queue}'" if what == "hold"
           else f"{queue}: approvals are told and changes land again")
     if not yes and not is_wanted():
         print("operator: nothing is done")
         return 1
-    now = datetime.now(timezone.utc)
-    if what == "hold":
-        held[queue] = Hold(f"{now:%Y-%m-%d %H:%M} UTC", because)
-    else:
-        del held[queue]
-    write(settings.folder, held)
-    line = {"id": uuid.uuid4().hex, "at": now.isoformat(timespec="seconds"), "by": user(), "do": what, "queue": queue,
-            "said": [because] if because else []}
-    log = folder_in(settings.folder) / LOG
+    others = {name: it for name, it in (held or {}).items() if name != queue}
+    since = f"{datetime.now(timezone.utc):%Y-%m-%d %H:%M} UTC"
+    write(settings.folder, {**others, queue: Hold(since, because)} if what == "hold" else others)
+    note(settings.folder, what, queue, because if what == "hold" else "")
+    return 0
+
+
+def known(folder: Path) -> dict[str, Hold] | None:
+    """The queues that are held; none where the file can't be read, which holds all of them until it is written anew."""
+    try:
+        return read(folder)
+    except ValueError as fault:
+        print(f"operator: {fault}: it is written anew, and then holds no other queue", file=sys.stderr)
+        return None
+
+
+def last_act(folder: Path, queue: str) -> str:
+    """What was done last with a queue: at first none is held."""
+    return next((it["do"] for it in reversed([*done(folder)]) if it.get("queue") == queue), "resume")
+
+
+def note(folder: Path, what: str, queue: str, because: str) -> None:
+    """Notes what was done with a queue, and says it."""
+    line = {"id": uuid.uuid4().hex, "at": datetime.now(timezone.utc).isoformat(timespec="seconds"), "by": user(),
+            "do": what, "queue": queue, "said": [because] if because else []}
+    log = folder_in(folder) / LOG
     with log.open("a", encoding="utf-8") as lines:
         lines.write(json.dumps(line) + "\n")
-    own(log, settings.folder)
+    own(log, folder)
     print(told(line))
-    return 0
 
 
 def done(folder: Path) -> Iterator[dict[str, Any]]:

@@ -7,8 +7,10 @@ from collections.abc import Callable
 from pathlib import Path
 from typing import IO
 
+from companions.command_line import CommandLine
 from companions.gate import say
-from companions.settings import Settings, SettingsFault, read
+from companions.reader import SettingsFault
+from companions.settings import Settings, read
 from companions.tables import OtherVersion
 
 
@@ -36,27 +38,20 @@ def hold_of(part: str, folder: Path) -> IO[str] | None:
     return hold
 
 
-def is_help(words: list[str], said: str | None) -> bool:
-    """Whether only help is asked for. Then it is printed: what a module says of itself."""
-    if words not in (["--help"], ["-h"]):
-        return False
-    print((said or "").strip())
-    return True
-
-
 def start(part: str, words: list[str], run: Callable[[Settings], int]) -> int:
     """Runs a part under the settings of the file that the words name, and gives the status of its process.
 
     It is 2 where the words name no file, 1 where the settings are wrong, the part has no folder of its own or a later
     version's, else what `run` gives.
     """
-    if is_help(words, sys.modules[run.__module__].__doc__):
-        return 0
-    if len(words) != 1:
-        print(f"usage: python3 -m companions.{part} companions.toml", file=sys.stderr)
-        return 2
+    line = CommandLine(part, sys.modules[run.__module__].__doc__)
+    line.add_settings()
+    return line.run(words, lambda asked: begin(part, asked.settings, run))
+
+
+def begin(part: str, file: Path, run: Callable[[Settings], int]) -> int:
     try:
-        settings = read(Path(words[0]))
+        settings = read(file)
     except SettingsFault as fault:
         print(fault, file=sys.stderr)
         return 1

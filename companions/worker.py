@@ -22,21 +22,21 @@ from typing import NoReturn
 
 from companions import job, sandbox, settings
 from companions.beating import Beating
-from companions.beats import NAME
 from companions.building import Ran
+from companions.command_line import CommandLine
 from companions.faults import MACHINE, OtherSettings
 from companions.gate import Answer, Delivery, Gate, expected, say
 from companions.ids import id_of, success_id
 from companions.keeping import LONGEST_REST, Clock, Held, Keeper
 from companions.outbox import Notes
+from companions.reader import SettingsFault
 from companions.repository import GitFault, untested
 from companions.room import shared
-from companions.settings import Settings, SettingsFault
-from companions.starting import alone, is_help
+from companions.settings import Settings
+from companions.starting import alone
 from companions.trees import Build, Trees, build_of
 from companions.wanted import Reply
 
-USAGE = "usage: python3 -m companions.worker companions.toml NAME"
 IDLE = "E12"
 # So often a worker looks whether the lander has its author, as a multiple of `worker.look`.
 AUTHOR = 30
@@ -184,7 +184,9 @@ class Worker:
             try:
                 with self.beating.having(held.take, build.number):
                     ran = self.keeper.run(held, build)
-                    again = self.report(held.take, held.reply, ran.outcome, ran.commit) if ran else self.let_go(build)
+                    again = self.report(held.take, held.reply, ran.outcome, ran.commit) if ran is not None else None
+                    if ran is None:
+                        self.let_go(build)
             finally:
                 self.keeper.job_ended()
             self.losses = self.losses + 1 if ran is not None and ran.outcome == "lost" else 0
@@ -263,18 +265,20 @@ def work(file: Path, name: str) -> int:
 
 
 def main(argv: list[str]) -> int:
-    if is_help(argv, __doc__):
-        return 0
-    if len(argv) != 2 or not NAME.fullmatch(argv[1]):
-        print(USAGE, file=sys.stderr)
-        return 2
+    line = CommandLine("worker", __doc__)
+    line.add_settings()
+    line.add_worker()
+    return line.run(argv, lambda asked: begin(asked.settings, asked.name))
+
+
+def begin(file: Path, name: str) -> int:
     while True:
         try:
-            return work(Path(argv[0]), argv[1])
+            return work(file, name)
         except OtherSettings:
-            say(f"worker {argv[1]}", "begins anew with the settings of now")
+            say(f"worker {name}", "begins anew with the settings of now")
         except (SettingsFault, GitFault, OSError, sqlite3.Error) as fault:
-            print(f"worker {argv[1]}: {fault}", file=sys.stderr)
+            print(f"worker {name}: {fault}", file=sys.stderr)
             return 1
         except KeyboardInterrupt:
             return 130
