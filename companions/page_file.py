@@ -22,8 +22,8 @@ STAYS, MOST = 7 * 86400.0, 1000
 
 class PageFile:
     """Keeps the file in a folder. `address` gives the address of a request, `mark` stands before its number, and `logs`
-    is the address of a build's log, if builds have one. `order` gives the order number of the last item of a change that
-    has left its queue."""
+    is the address of a build's log, if builds have one. `order` gives the order number of the last item of a change
+    that has left its queue."""
 
     def __init__(self, folder: Path, subjects: Subjects, address: Callable[[Place], str], mark: str,
                  logs: str | None = None, order: Callable[[int], int | None] = lambda change: None) -> None:
@@ -33,7 +33,8 @@ class PageFile:
     def look(self, said: Mapping[int, Sequence[str]], now: float) -> None:
         """Notes what people are told of each change by now, and writes the file where it is another one by that."""
         self.subjects.say(said)
-        text = json.dumps({"logs": self.logs, "requests": [self.row(it) for it in self.subjects.shown(now - STAYS, MOST)]})
+        shown = self.subjects.shown(now - STAYS, MOST)
+        text = json.dumps({"logs": self.logs, "requests": [self.row(it) for it in shown]})
         if text != self.written or not self.file.exists():
             figures.write(self.file, text)
             self.written = text
@@ -42,9 +43,10 @@ class PageFile:
         """A request. The first paragraph says why it isn't in its branch yet, the others what can be done about it."""
         says, *advice = [unmarked(paragraph) for paragraph in it.said] or [""]
         last = it.revisions[0] if it.revisions else None
-        revisions = [{"revision": one.number, "hash": one.commit, "approvals": one.approvals, "withdrawn": one.withdrawn}
-                     for one in it.revisions]
-        return {"change": it.change, "number": it.place.number, "name": f"{it.place.repository}{self.mark}{it.place.number}",
-                "address": self.address(it.place), "title": it.title, "author": it.author, "says": says,
-                "advice": advice, "needs": last.needs if last is not None else (), "order": self.order(it.change),
+        revisions = [{"revision": one.number, "hash": one.commit, "approvals": one.approvals,
+                      "withdrawn": one.withdrawn} for one in it.revisions]
+        return {"change": it.change, "number": it.place.number,
+                "name": f"{it.place.repository}{self.mark}{it.place.number}", "address": self.address(it.place),
+                "title": it.title, "author": it.author, "says": says, "advice": advice,
+                "needs": last.needs if last is not None else (), "order": self.order(it.change),
                 "revisions": revisions}

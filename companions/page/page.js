@@ -30,12 +30,21 @@ function draw() {
   state.followed = null;
   if (kind === "changes") drawChange(view, state, Number(rest));
   else if (kind === "builds") drawBuild(view, state, Number(rest));
-  else if (kind === "search") drawFound(decodeURIComponent(rest ?? ""));
+  else if (kind === "search") drawFound(decoded(rest ?? ""));
   else drawQueues(view, state);
   const titles = { changes: () => `${state.names.short(Number(rest))}, gate`, builds: () => `build ${Number(rest)}, gate` };
   document.title = titles[kind]?.() ?? "Gate";
   view.dataset.drawn = (performance.now() - begun).toFixed(1);
   drawn = Date.now();
+}
+
+/** A part of an address. One that was cut stays as it is. */
+function decoded(part) {
+  try {
+    return decodeURIComponent(part);
+  } catch {
+    return part;
+  }
 }
 
 function drawFound(words) {

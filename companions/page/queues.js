@@ -46,7 +46,7 @@ function fill(part, queue, state) {
 function wagon(it, place, isFirst, queue, state) {
   const times = it.jobs.map(({ job: name, slot }) => (slot === "running" ? runs(it.order, name, state) : ""));
   const request = state.names.get(it.change);
-  const needs = (request?.needs ?? []).map((need) => [need, needed(need, queue, state)]);
+  const needs = needsOf(request, queue, state);
   const how = stands(it, place, queue, state, isFirst);
   const mark = [it.line, how, state.names.title(it.change), request?.author, ...times, ...needs].join("|");
   return { key: `item ${it.order}`, mark, make: () => {
@@ -57,8 +57,7 @@ function wagon(it, place, isFirst, queue, state) {
     return element("li", { class: `item ${it.how}` }, heading(it.change, state),
       element("p", { class: "stands" }, how),
       element("ul", { class: "jobs", "aria-label": "jobs" }, jobs),
-      needs.length ? element("p", { class: "needs" }, "needs ", needs.map(([need, said], at) => [at ? ", " : "",
-        element("a", { href: `#/changes/${need}` }, state.names.short(need)), said])) : null);
+      needsLine(needs, state));
   } };
 }
 
@@ -89,11 +88,17 @@ function runs(order, name, state) {
   return since && !(since.isOlder && Date.now() - since.at < 10000) ? `for ${since.isOlder ? "at least " : ""}${duration(Date.now() - since.at)}` : "";
 }
 
-/** Where a need of an item stands, if it stands in a queue. */
-function needed(need, queue, state) {
-  const home = state.find(need)?.queue;
-  if (!home) return "";
-  return home.name === queue.name ? " ahead of it" : ` in ${home.name}`;
+/** What a request needs, each with where it stands, if it stands in a queue. What only waits stands in none. */
+function needsOf(request, queue, state) {
+  return (request?.needs ?? []).map((need) => {
+    const home = state.find(need)?.queue;
+    return [need, !home ? "" : home.name === queue?.name ? " ahead of it" : ` in ${home.name}`];
+  });
+}
+
+function needsLine(needs, state) {
+  return needs.length ? element("p", { class: "needs" }, "needs ", needs.map(([need, said], at) => [at ? ", " : "",
+    element("a", { href: `#/changes/${need}` }, state.names.short(need)), said])) : null;
 }
 
 /** A request with its title and links: to what this page knows of it, and to the forge. */
@@ -105,11 +110,19 @@ export function heading(change, state) {
     `, change ${change}, by ${request.author}`) : null);
 }
 
+/** The jobs by which an item has failed: of its builds that count, one failed and none passed, or three were lost. */
+function decided(builds) {
+  const live = builds.filter((it) => it.live);
+  const count = (job, outcome) => live.filter((it) => it.job === job && it.outcome === outcome).length;
+  return [...new Set(live.map(({ job: name }) => name))]
+    .filter((name) => !count(name, "success") && (count(name, "failure") || count(name, "lost") > 2))
+    .map((name) => `${name} ${count(name, "failure") ? "failed" : "was lost"}`);
+}
+
 function leaving(it, state) {
   const order = `items/${it.order}`;
   const gone = it.verdict === "failed" ? state.known(order) : null;
-  const decided = (gone?.builds ?? []).filter((build) => build.live && build.outcome !== "success");
-  const why = decided.map((build) => `${build.job} ${build.outcome === "lost" ? "was lost" : "failed"}`).join(", ");
+  const why = decided(gone?.builds ?? []).join(", ");
   const said = `${VERDICTS[it.verdict] ?? it.verdict}${it.landing === null ? "" : ` as ${it.landing}`}${why ? `: ${why}` : ""}`;
   return { key: `report ${it.place}`, mark: [said, state.names.title(it.change)].join("|"), make: () =>
     element("li", { class: it.verdict }, heading(it.change, state), element("p", { class: "stands" }, said)) };
@@ -118,8 +131,9 @@ function leaving(it, state) {
 function waits(it, state) {
   const request = state.names.get(it.change);
   const said = request?.says ?? why(state.known(`changes/${it.change}`));
-  return { key: `waits ${it.change}`, mark: [it.revision, said, state.names.title(it.change)].join("|"), make: () =>
-    element("li", {}, heading(it.change, state), element("p", { class: "stands" }, said)) };
+  const needs = needsOf(request, null, state);
+  return { key: `waits ${it.change}`, mark: [it.revision, said, state.names.title(it.change), ...needs].join("|"), make: () =>
+    element("li", {}, heading(it.change, state), element("p", { class: "stands" }, said), needsLine(needs, state)) };
 }
 
 /** Why a change waits, by what the gate says of it alone. */

@@ -104,12 +104,17 @@ export class State {
     const known = this.reports.get(queue.name);
     if (known && !this.isDoubted && isSame(queue, before)) return;
     const from = known ? Math.max(1, known.count) : await this.first(queue.name);
-    const { reports, count } = await history(queue.name, from);
+    const { reports, count, isWhole } = await history(queue.name, from);
     const last = known?.count ? known.last.at(-1) : null;
     const again = last ? reports.shift() : null;
     if (last && JSON.stringify(again) !== JSON.stringify(last)) {
       this.forget();
       this.tell("The gate has another file, or an earlier state of its own");
+      return this.report(queue, null);
+    }
+    if (known && !isWhole) {
+      // Nobody has looked for long: only the last ones are shown.
+      this.reports.delete(queue.name);
       return this.report(queue, null);
     }
     if (known) for (const it of reports) this.tell(`${queue.name}: ${this.names.short(it.change)} ${said(it)}`);

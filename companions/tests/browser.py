@@ -1,4 +1,4 @@
-"""A browser for tests: Debian's Chromium, driven by its chromedriver as WebDriver says (https://www.w3.org/TR/webdriver2)."""
+"""A browser for tests: Debian's Chromium, driven by its chromedriver as https://www.w3.org/TR/webdriver2 says."""
 from __future__ import annotations
 
 import base64
@@ -23,8 +23,9 @@ class Browser:
         self.port = free_port()
         log = (folder / "chromedriver.log").open("ab")
         with log:
-            self.process = subprocess.Popen(["chromedriver", f"--port={self.port}"], stdin=subprocess.DEVNULL, stdout=log,
-                                            stderr=log, start_new_session=True, env={**os.environ, "HOME": str(folder)})
+            self.process = subprocess.Popen(["chromedriver", f"--port={self.port}"], stdin=subprocess.DEVNULL,
+                                            stdout=log, stderr=log, start_new_session=True,
+                                            env={**os.environ, "HOME": str(folder)})
         words = ["--headless=new", "--no-sandbox", "--disable-dev-shm-usage", "--ignore-certificate-errors",
                  "--disable-gpu", "--hide-scrollbars", f"--window-size={width},{height}",
                  f"--user-data-dir={folder / 'chromium'}", *(["--force-dark-mode"] if dark else [])]
@@ -79,9 +80,6 @@ class Browser:
         """Types keys, as at a keyboard."""
         steps = [{"type": kind, "value": key} for key in keys for kind in ("keyDown", "keyUp")]
         self.call("POST", "/actions", {"actions": [{"type": "key", "id": "keyboard", "actions": steps}]})
-
-    def resize(self, width: int, height: int) -> None:
-        self.call("POST", "/window/rect", {"width": width, "height": height})
 
     def picture(self, file: Path) -> None:
         file.write_bytes(base64.b64decode(self.call("GET", "/screenshot")))

@@ -29,8 +29,8 @@ def request(number: int, title: str, **more: Any) -> dict[str, Any]:
 
 
 class PageTest(ServiceTest):
-    """A gate of examples/settings.toml with the queues core, of lib and app, and web, of site. All tests of a class have
-    one browser, since it takes long to start."""
+    """A gate of examples/settings.toml with the queues core, of lib and app, and web, of site. All tests of a class
+    have one browser, since it takes long to start."""
     browser: Browser
 
     @classmethod
@@ -62,7 +62,8 @@ class PageTest(ServiceTest):
     def start_proxy(self) -> None:
         make_proxy(self.folder, self.port, self.gate_port, {**os.environ, "PATH": search()})
         passwords = self.folder / "proxy" / "gate.passwords"
-        coded = subprocess.run(["openssl", "passwd", "-apr1", PASSWORD], capture_output=True, text=True, check=True).stdout
+        coded = subprocess.run(["openssl", "passwd", "-apr1", PASSWORD], capture_output=True, text=True,
+                               check=True).stdout
         passwords.write_text(passwords.read_text() + f"{PERSON}:{coded}")
         printed = (self.folder / "proxy" / "printed").open("wb")
         self.addCleanup(printed.close)
@@ -112,8 +113,9 @@ class PageTest(ServiceTest):
         new.replace(self.folder / "page" / "requests.json")
 
     def look(self, path: str = "") -> None:
-        """The page at a path, once it has looked at the gate for the first time. Where the machine has so much to do that
-        the proxy cuts off a connection that says nothing for ten seconds, it is loaded again, as a person does it."""
+        """The page at a path, once it has looked at the gate for the first time. Where the machine has so much to do
+        that the proxy cuts off a connection that says nothing for ten seconds, it is loaded again, as a person does
+        it."""
         self.browser.go(self.address + path)
         for _ in range(6):
             until = time.monotonic() + 30
@@ -123,6 +125,12 @@ class PageTest(ServiceTest):
                 time.sleep(0.1)
             self.browser.call("POST", "/refresh")
         self.fail(f"the page doesn't look at the gate: {self.browser.text('body')}")
+
+    def asked(self) -> list[tuple[str, int]]:
+        """What the person has asked the proxy for, with the status of each answer."""
+        rows = [line.split('"') for line in (self.folder / "proxy" / "gate.log").read_text().splitlines()]
+        return [(request.split()[1], int(rest.split()[0])) for head, request, rest, *_ in rows
+                if head.split()[2:] == [PERSON]]
 
     def stop(self) -> None:
         end(self.process)

@@ -8,6 +8,8 @@ from typing import Any
 from companions.tests.day.layout import PASSWORD
 from companions.tests.page_case import HOSTILE, PERSON, PageTest, request
 
+NO_LOG = "No log of it is served at this host."
+
 
 class TrainTest(PageTest):
     """What the page says of items that wait for others."""
@@ -39,14 +41,35 @@ class TrainTest(PageTest):
         self.browser.wait(lambda: self.browser.text(".train .stands") == [
             "fails, and leaves once its other jobs have ended", "passed, is being landed"])
 
+    def test_where_the_window_ends_and_what_each_item_waits_for(self) -> None:
+        for change in range(101, 106):
+            self.approved(change, "app")
+        builds = {it["change"]: it["build"] for it in (self.tell(kind="take", worker="w1") for _ in range(2))}
+        self.tell(kind="result", build=builds[102], outcome="success")
+        self.look()
+        self.browser.wait(lambda: self.browser.text(".train .stands") == [
+            "is tested", "passed, waits for those before it", "waits for a worker", "waits for the window",
+            "waits for the window"])
+        parts = self.browser.run("return [...document.querySelector('.train').children].map((it) => it.dataset.key)")
+        self.assertEqual(parts, ["item 1", "item 2", "item 3", "edge", "item 4", "item 5"])
+
     def test_a_need_in_another_queue_is_named(self) -> None:
+        """And leads there, from what waits for it."""
         self.approved(101, "lib")
         self.approved(301, "site", 101)
-        self.say({301: request(31, "Show two", needs=[101], says="Approved, and waits to enter web.")})
+        self.say({101: request(11, "Read two"),
+                  301: request(31, "Show two", needs=[101], says="Approved, and waits to enter web.")})
         self.look()
         self.browser.wait(lambda: self.browser.text(".waiting .stands") == ["Approved, and waits to enter web."])
+        self.assertEqual(self.browser.text(".waiting .needs"), ["needs acme/lib#11 (change 101) in core"])
+        self.assertEqual(self.browser.run("return document.querySelector('.waiting .needs a').hash"), "#/changes/101")
         self.browser.run("location.hash = '#/changes/301'")
-        self.browser.wait(lambda: self.browser.text("[aria-label=needs] li") == ["change 101: stands in core"])
+        self.browser.wait(lambda: self.browser.text("[aria-label=needs] li") == [
+            "Read two (acme/lib#11, change 101): stands in core"])
+        self.browser.run("location.hash = '#/'")
+        self.built("failure")
+        self.built("success")
+        self.browser.wait(lambda: self.browser.text(".waiting .needs") == ["needs acme/lib#11 (change 101)"])
 
 
 class BuildTest(PageTest):
@@ -90,16 +113,17 @@ class BuildTest(PageTest):
         self.log(build, b"one\n")
         self.log(build, b"two\n", "unit-1a1b1c1d.log")
         self.look(f"#/builds/{build}")
-        self.browser.wait(lambda: self.browser.text("pre") == ["one ", "two "] or self.browser.text("pre") == ["one", "two"])
+        self.browser.wait(lambda: self.browser.text("pre") in (["one ", "two "], ["one", "two"]))
 
     def test_where_no_log_is_served_the_page_says_so(self) -> None:
         self.approved(101, "lib")
         build = self.built("success")
         self.look(f"#/builds/{build}")
-        self.browser.wait(lambda: any("No log of it is served at this host." in it for it in self.browser.text("#view p")))
+        self.browser.wait(lambda: any(NO_LOG in it for it in self.browser.text("#view p")))
         self.say({}, "https://logs.example/{build}")
         self.browser.wait(lambda: "Its log is at logs.example." in self.browser.text("#view p"))
-        self.assertEqual(self.browser.run("return document.querySelector('#view > p a').href"), f"https://logs.example/{build}")
+        self.assertEqual(self.browser.run("return document.querySelector('#view > p a').href"),
+                         f"https://logs.example/{build}")
         self.browser.run("location.hash = '#/builds/999'")
         self.browser.wait(lambda: "The gate knows no build 999." in self.browser.text("#view p"))
 
@@ -107,9 +131,10 @@ class BuildTest(PageTest):
         """For this very build, and by the web alone."""
         self.approved(101, "lib")
         build = int(self.tell(kind="take", worker="w1")["build"])
-        right = {"build": build, "change": 101, "revision": 1, "job": "unit", "link": "https://ci.example/<b>/7"}
-        others = [{**right, **it, "link": "https://ci.example/other"} for it in (
-            {"build": build + 1}, {"change": 102}, {"revision": 2}, {"job": "docs"})]
+        right: dict[str, Any] = {"build": build, "change": 101, "revision": 1, "job": "unit",
+                                 "link": "https://ci.example/<b>/7"}
+        differ: list[dict[str, Any]] = [{"build": build + 1}, {"change": 102}, {"revision": 2}, {"job": "docs"}]
+        others = [{**right, **it, "link": "https://ci.example/other"} for it in differ]
         self.have([right, *others, 7, None])
         self.look(f"#/builds/{build}")
         self.browser.wait(lambda: "Its log is at ci.example." in self.browser.text("#view p"))
@@ -117,7 +142,7 @@ class BuildTest(PageTest):
                          "https://ci.example/%3Cb%3E/7")
         for link in ("javascript:alert(1)", "data:text/html,x", 7, None):
             self.have([{**right, "link": link}])
-            self.browser.wait(lambda: any("No log of it is served at this host." in it for it in self.browser.text("#view p")))
+            self.browser.wait(lambda: any(NO_LOG in it for it in self.browser.text("#view p")))
             self.have([right])
             self.browser.wait(lambda: "Its log is at ci.example." in self.browser.text("#view p"))
 
@@ -151,11 +176,11 @@ class ReadingTest(PageTest):
         self.built("success")
         self.look()
         self.browser.wait(lambda: self.items("core"))
-        found = [(it["role"]["value"], it["name"]["value"]) for it in self.browser.tell("Accessibility.getFullAXTree")["nodes"]
-                 if not it["ignored"] and "name" in it]
+        nodes = self.browser.tell("Accessibility.getFullAXTree")["nodes"]
+        found = [(it["role"]["value"], it["name"]["value"]) for it in nodes if not it["ignored"] and "name" in it]
         for wanted in (("main", ""), ("search", ""), ("searchbox", "Find a request, a change or a person"),
-                       ("region", "core"), ("region", "web"), ("list", "items of core, front to back"), ("list", "jobs"),
-                       ("list", "what left core lately"), ("link", "change 101"),
+                       ("region", "core"), ("region", "web"), ("list", "items of core, front to back"),
+                       ("list", "jobs"), ("list", "what left core lately"), ("link", "change 101"),
                        ("log", "What happened lately")):
             self.assertIn(wanted, found)
         live = self.browser.run("return [...document.querySelectorAll('[aria-live]')].map((it) => it.ariaLive)")

@@ -113,8 +113,8 @@ class Viewers(PageTest):
         seconds = {it: spent(it) - before[it] for it in (self.process.pid, *children(master))}
         gate, proxy = seconds[self.process.pid], sum(seconds.values()) - seconds[self.process.pid]
         statuses = sum((it.statuses for it in viewers), Counter[int]())
-        print(f"\n{VIEWERS} viewers, {said}: {len(rows) / took:.1f} requests a second at nginx, {passed / took:.2f} at the"
-              f" gate; processor: gate {gate / took * 100:.2f} %, nginx {proxy / took * 100:.1f} %; answers"
+        print(f"\n{VIEWERS} viewers, {said}: {len(rows) / took:.1f} requests a second at nginx, {passed / took:.2f} at"
+              f" the gate; processor: gate {gate / took * 100:.2f} %, nginx {proxy / took * 100:.1f} %; answers"
               f" {dict(statuses)}")
         self.assertGreater(statuses[200], VIEWERS)
 
