@@ -8,7 +8,7 @@ from collections.abc import Callable
 from pathlib import Path
 from typing import Any
 
-from companions.forges import Forge, as_hook, check_seal
+from companions.forges import Forge, Headers, as_hook, check_seal
 from companions.gate import say
 from companions.hooks import Hooks, NotTaken, serve
 from companions.settings import Settings
@@ -21,10 +21,11 @@ class CiHooks(Hooks):
 
     def __init__(self, address: tuple[str, int], forge: Forge, look_at: Callable[[str], None], part: str, folder: Path
                  ) -> None:
+        # It notes no hints: its `take` is another one.
         super().__init__(address, None, forge, {}, threading.Event(), folder)  # type: ignore[arg-type]
         self.look_at, self.not_taken = look_at, NotTaken(part=part)
 
-    def take(self, headers: Any, body: bytes) -> tuple[int, str]:
+    def take(self, headers: Headers, body: bytes) -> tuple[int, str]:
         """The answer to a hook."""
         try:
             check_seal(self.forge.seal_of(headers), body)

@@ -5,12 +5,15 @@ Each step may fail by itself, and is tried again. What a queue waits for holds u
 from __future__ import annotations
 
 import sqlite3
+import threading
 import time
 from collections.abc import Callable
 from dataclasses import asdict, dataclass, replace
+from functools import partial
 
 from companions.api import ForgeFault
 from companions.beating import Beating
+from companions.ci_settings import LOOK
 from companions.conflicts import Conflict
 from companions.gate import Answer, Gate, NoAnswer
 from companions.judged import Verdict, Wanted, judge
@@ -18,6 +21,7 @@ from companions.links import Link, Links
 from companions.moments import Moment
 from companions.outbox import Notes
 from companions.repository import Declined, GitFault
+from companions.rests import Paces
 from companions.runs import Run, Runs, others_on_no_branch
 from companions.settings import Settings
 from companions.statuses import Mark, Statuses
@@ -28,6 +32,9 @@ from companions.worker import result_of
 # What may be at fault outside of a build. It is kept as long as that lasts: nobody else could take it, since one
 # program of this kind runs for a gate.
 FAULTS = (ForgeFault, GitFault, NoAnswer, OSError, sqlite3.Error, Unset)
+
+# So often in an hour a hook has a run looked at at once. More of them count once in half a minute, or in `ci.look`.
+AT_ONCE = 20
 
 
 class Waits(GitFault):
@@ -75,6 +82,8 @@ class CiQueue:
         # Since when a build's changes aren't known.
         self.unknown: dict[str, float] = {}
         self.is_clear = False
+        # How often hooks have had each run looked at.
+        self.hooked, self.paces = threading.Lock(), Paces(AT_ONCE, min(LOOK, settings.ci.look))
 
     def add(self, it: Taken) -> None:
         """A build that was taken, and is noted."""
@@ -96,19 +105,23 @@ class CiQueue:
         return (run is None or run.pushed is None) and (it.key in self.said or f"run {it.run}" in self.said)
 
     def look_at(self, commit: str) -> None:
-        """A hook says that there is news of a commit."""
+        """A hook says that there is news of a commit. Whoever may set statuses can bring about very many."""
         for run in list(self.runs.all):
-            if run.commit == commit:
-                self.due.pop(f"run {run.last}", None)
+            with self.hooked:
+                now = time.monotonic()
+                if run.commit != commit or self.paces.waits(run.last, now):
+                    continue
+                self.paces.count(run.last, now)
+            self.due.pop(f"run {run.last}", None)
 
     def turn(self) -> None:
         """One round over all that it has."""
         if not self.is_clear:
             self.attempt("earlier runs", self.clear)
         for it in list(self.builds.values()):
-            self.attempt(it.key, lambda it=it: self.step(it))
+            self.attempt(it.key, partial(self.step, it))
         for run in list(self.runs.all):
-            self.attempt(f"run {run.last}", lambda run=run: self.drive(run))
+            self.attempt(f"run {run.last}", partial(self.drive, run))
 
     def attempt(self, name: str, task: Callable[[], None]) -> None:
         """Does what is due; what is at fault is said once, and tried again at the next look."""
@@ -194,7 +207,7 @@ class CiQueue:
         project = self.settings.projects[run.project]
         if run.status is None:
             mark = self.statuses.mark(project.forge, run.short, run.commit)
-            run.status, run.run = mark.status, mark.run
+            run.status, run.run, run.checks = mark.status, mark.run, dict(mark.checks)
             self.runs.note(run)
         self.runs.push(run)
         self.tell(f"pushed {run.short} to {run.project}")
@@ -203,7 +216,7 @@ class CiQueue:
         """Ends the builds of a run of which the forge says by now how their jobs ended."""
         now, project = Moment.now(), self.settings.projects[run.project]
         run.of_boot(now)
-        seen = self.statuses.look(project.forge, run.short, run.commit, Mark(run.status or 0, run.run))
+        seen = self.statuses.look(project.forge, run.short, run.commit, mark_of(run))
         names = {it.name for it in seen.reports}
         for it in builds:
             job = project.jobs.get(it.build.job)
@@ -212,9 +225,12 @@ class CiQueue:
             if job.status in names:
                 self.has_come(run, job.status, now)
             wanted = Wanted(job.status, job.limit, self.settings.ci.begins, job.status in self.known(run.project))
-            uncounted = [*seen.uncounted, *(["more statuses than are read"] if seen.is_cut else [])]
-            verdict = judge(wanted, seen.reports, uncounted, run.age(now), run.came_for(job.status, now))
-            run.cancels |= verdict.is_over_limit
+            uncounted = [*seen.uncounted, *(["more statuses or check runs than are read"] if seen.is_cut else [])]
+            verdict = judge(wanted, seen.reports, uncounted, run.age(now), run.came_for(job.status, now),
+                            bool(seen.running))
+            if verdict.is_over_limit:
+                run.cancels = True
+                self.runs.note(run)
             self.link(it, verdict.link or next((report.link for report in seen.reports if report.link
                                                 and report.name == job.status), ""))
             if verdict.outcome is not None:
@@ -260,17 +276,17 @@ class CiQueue:
 
     def leave(self, it: Taken, is_useless: bool = False) -> None:
         """A build is over here. Its run's branch goes once it was the last one."""
+        run = self.runs.of(it.run)
+        if run is not None:
+            run.cancels |= is_useless
+            self.runs.note(run)
         self.notes.drop(it.key)
         self.beating.drop(it.take)
         self.builds.pop(it.take, None)
         self.looks.pop(it.take, None)
         self.unknown.pop(it.take, None)
         self.due.pop(it.key, None)
-        run = self.runs.of(it.run)
-        if run is not None:
-            run.cancels |= is_useless
-            self.runs.note(run)
-            self.due.pop(f"run {run.last}", None)
+        self.due.pop(f"run {it.run}", None)
 
     def report(self, it: Taken) -> None:
         """Tells how a build ended, unless the gate means another one by its take."""
@@ -294,7 +310,11 @@ class CiQueue:
         return True, self.gate.post("worker", result_of(it.take, it.reply, it.outcome, commit))
 
     def take_away(self, run: Run) -> None:
-        """Ends a run that no build is in any more: what still runs of it is cancelled if it is of no use."""
+        """Ends a run that no build is in any more: what still runs of it is cancelled if it is of no use. However long
+        that takes, no build joins it from now on."""
+        if not run.is_over:
+            run.is_over = True
+            self.runs.note(run)
         if run.cancels and run.status is not None:
             self.cancel(run)
             run.cancels = False
@@ -310,10 +330,14 @@ class CiQueue:
         """Cancels what still runs. A forge that can't say or do it has the branch taken away nevertheless."""
         forge = self.settings.projects[run.project].forge
         try:
-            seen = self.statuses.look(forge, run.short, run.commit, Mark(run.status or 0, run.run))
+            seen = self.statuses.look(forge, run.short, run.commit, mark_of(run))
             for number in seen.running:
                 self.statuses.cancel(forge, number)
                 self.tell(f"cancelled run {number} of {run.short}")
         except ForgeFault as fault:
             self.tell(f"what the CI runs of {run.short} can't be cancelled: {fault}")
 
+
+def mark_of(run: Run) -> Mark:
+    """What was there before a run was pushed."""
+    return Mark(run.status or 0, run.run, run.checks)

@@ -19,14 +19,19 @@ PARALLEL, COMMANDS, BEGINS = 20, 4, 900.0
 LOOK = 30.0
 # The name of the adapter's own status, which no CI has; and the longest name that forges take.
 OWN, LONGEST = "gate", 255
+# The App by whose name the workflows of all branches speak at github.com, and so many Apps are asked for; and the
+# accounts by which such workflows set statuses.
+ACTIONS, APPS = 15368, 10
+SHARED = frozenset({"github-actions", "github-actions[bot]", "gitea-actions"})
+OF_ALL = "by which the workflows of all branches speak: leave it out, and their jobs count by branch, commit and event"
 
 
 @dataclass(frozen=True)
 class Ci:
     """How `companions.ci` works: `parallel` builds at once, and beside them `commands`; a name has to come within
-    `begins` seconds. A status of a commit counts only from the accounts of `trusted`. The forge is the adapter's unless
-    the table names one: its form, the address of its API, and a token. Hooks come in at `host` and `port`, signed by
-    `secret`, if a port is named.
+    `begins` seconds. A status of a commit counts only from the accounts of `trusted`, and a check run only from the
+    Apps of these numbers. The forge is the adapter's unless the table names one: its form, the address of its API, and
+    a token. Hooks come in at `host` and `port`, signed by `secret`, if a port is named.
     """
     parallel: int = PARALLEL
     commands: int = COMMANDS
@@ -39,6 +44,7 @@ class Ci:
     secret: str = ""
     host: str = ""
     port: int | None = None
+    trusted_apps: frozenset[int] = frozenset()
 
     @property
     def has_forge(self) -> bool:
@@ -57,8 +63,31 @@ def ci_of(top: Reader, adapter: Adapter | None, forms: tuple[str, ...]) -> Ci:
     if port is not None and not secret:
         raise table.fault("listen", "takes hooks, and neither ci.secret nor adapter.secret says how they are signed")
     given = Ci(table.count("parallel", PARALLEL), table.count("commands", COMMANDS), table.seconds("begins", BEGINS),
-               table.seconds("look", LOOK), table.names("trusted") or frozenset(), form, url, token, secret, host, port)
+               table.seconds("look", LOOK), trusted_of(table), form, url, token, secret, host, port,
+               apps_of(table, form))
     table.end()
+    return given
+
+
+def trusted_of(table: Reader) -> frozenset[str]:
+    """The logins whose statuses count."""
+    named = table.names("trusted") or frozenset()
+    for it in sorted(named):
+        if it.casefold() in SHARED:
+            raise table.fault("trusted", f"{it} is an account {OF_ALL}")
+    return named
+
+
+def apps_of(table: Reader, form: str) -> frozenset[int]:
+    """The Apps of GitHub whose check runs count. They are given by their numbers: a name can be given up, and then
+    somebody else may take it."""
+    given = table.numbers("trusted_apps", "the numbers of Apps, as [12345]")
+    if given and form not in ("", "github"):
+        raise table.fault("trusted_apps", f"is for the check runs of GitHub's Apps, and {form} has none")
+    if ACTIONS in given:
+        raise table.fault("trusted_apps", f"{ACTIONS} is the App of Actions, {OF_ALL}")
+    if len(given) > APPS:
+        raise table.fault("trusted_apps", f"has more than {APPS} Apps")
     return given
 
 
@@ -70,12 +99,8 @@ def own(table: Reader, member: str, other: str) -> str:
 
 def listens(table: Reader) -> tuple[str, int | None]:
     """Where hooks come in, or no port."""
-    host, _, port = own(table, "listen", "").rpartition(":")
-    if not host and not port and "listen" not in table.table:
-        return "", None
-    if not host or not (port.isascii() and port.isdigit()) or int(port) > 65535:
-        raise table.fault("listen", "isn't a host and a port, as 127.0.0.1:8091")
-    return host, int(port)
+    table.read.add("listen")
+    return table.place("listen", "127.0.0.1:8091") if "listen" in table.table else ("", None)
 
 
 def status_of(job: Reader) -> str | None:
@@ -92,4 +117,3 @@ def status_of(job: Reader) -> str | None:
     if status == OWN:
         raise job.fault("status", f"{OWN} is the adapter's own status, which waits for this job")
     return status
-

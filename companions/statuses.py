@@ -2,31 +2,30 @@
 
 A job counts if the forge says that what ran it is of this branch, this commit and a push, and came after the run was
 pushed: a workflow on somebody's own branch has the names that it likes, and says of any commit what it likes. A status
-knows nothing but the commit, so it counts only from an account that the settings trust, and by its number. The calls
-are from the documentation of the forges, and were never made to a real one.
+knows nothing but the commit, so it counts only from an account that the settings trust, and by its number; and so does
+a check run of an App. The calls are from the documentation of the forges, and were never made to a real one.
 """
 from __future__ import annotations
 
 import itertools
 import threading
 import urllib.parse
-from collections.abc import Callable, Iterator
-from dataclasses import dataclass
+from collections.abc import Iterator, Mapping
+from dataclasses import dataclass, field
 from typing import Any
 
-from companions.api import PAGE, ForgeFault, Unread, expected
+from companions.api import PAGE, ForgeFault, TooLarge, Unread, expected
 from companions.ci_settings import Ci
 from companions.forges import Forge
+from companions.forms import CLIENTS
 from companions.gate import say
-from companions.github import Gitea, GitHub
-from companions.gitlab import GitLab
 from companions.judged import WORDS, Kind, Report, shown
 from companions.outbox import Notes
 
-FORMS: dict[str, Callable[[str, str, str], Any]] = {"gitea": Gitea, "github": GitHub, "gitlab": GitLab}
-# So many statuses of a commit are read, the newest ones; so many runs of a branch, and so many jobs of each; and so many
-# pages of a list.
-STATUSES, RUNS, JOBS, PAGES = 2000, 50, 500, 50
+# So many statuses of a commit are read, the newest ones; so many runs of a branch, and so many jobs of each; so many
+# check runs of an App; and so many pages of a list. A page of check runs has few: each may have two texts of 65,535
+# characters.
+STATUSES, RUNS, JOBS, CHECKS, PAGES, CHECKS_PAGE = 2000, 50, 500, 300, 50, 10
 # So many of those that don't count are kept, to be named.
 UNCOUNTED = 100
 # So much of an address is kept, and what of it is written as it is.
@@ -34,20 +33,23 @@ LINK, PLAIN = 2000, "/:?&=#%+,;@!$*~-._"
 # By what a forge says that it has no such commit, branch or feature.
 NONE = (404, 409, 422)
 ACCOUNTS = "trusted"
+# How GitHub calls the App of Actions, whose number is another one at each server.
+ACTIONS = "github-actions"
 
 
 @dataclass(frozen=True)
 class Mark:
-    """The highest numbers that were there before a run was pushed: of the commit's statuses, and of what the CI had run
-    on this branch. What comes later has larger ones."""
+    """The highest numbers that were there before a run was pushed: of the commit's statuses, of what the CI had run on
+    this branch, and of the commit's check runs of each App. What comes later has larger ones."""
     status: int = 0
     run: int = 0
+    checks: Mapping[str, int] = field(default_factory=dict)
 
 
 @dataclass(frozen=True)
 class Seen:
     """What was seen of a run: what counts, what doesn't, each with its reason, and what may be cancelled. `is_cut`:
-    there are more statuses than are read."""
+    there are more statuses or check runs than are read."""
     reports: tuple[Report, ...] = ()
     uncounted: tuple[str, ...] = ()
     running: tuple[int, ...] = ()
@@ -59,7 +61,7 @@ class Statuses:
 
     def __init__(self, forge: Any, ci: Ci, notes: Notes) -> None:
         self.forge, self.api = forge, forge.api
-        self.trusted = Trusted(ci.trusted, forge, notes)
+        self.trusted, self.apps = Trusted(ci.trusted, forge, notes), sorted(ci.trusted_apps)
         self.lock = threading.Lock()
 
     def mark(self, repository: str, branch: str, commit: str) -> Mark:
@@ -69,7 +71,7 @@ class Statuses:
             statuses = self.newest(repository, commit, PAGE)
             runs = self.runs(repository, branch, commit)
             return Mark(max((int(it["id"]) for it in statuses), default=0),
-                        max((int(it["id"]) for it in runs), default=0))
+                        max((int(it["id"]) for it in runs), default=0), self.checks_before(repository, commit))
 
     def look(self, repository: str, branch: str, commit: str, mark: Mark) -> Seen:
         """What there is of a run by now."""
@@ -82,7 +84,9 @@ class Statuses:
                     reports += found or self.whole(run)
                     running += [] if self.has_ended(run) else [int(run["id"])]
             counted, uncounted, is_cut = self.bare(repository, commit, mark)
-            return Seen((*reports, *counted), uncounted, tuple(running), is_cut)
+            of_apps = self.of_apps(repository, commit, mark)
+            return Seen((*reports, *counted, *of_apps.reports), (*uncounted, *of_apps.uncounted), tuple(running),
+                        is_cut or of_apps.is_cut)
 
     def cancel(self, repository: str, number: int) -> None:
         """Cancels what the CI runs. One that has ended meanwhile, or that this forge can't cancel, stays as it is."""
@@ -111,6 +115,14 @@ class Statuses:
                 uncounted[f"{shown(report.name or '')} {why}"] = None
         return counted, tuple(itertools.islice(uncounted, UNCOUNTED)), read > STATUSES
 
+    def checks_before(self, repository: str, commit: str) -> dict[str, int]:
+        """The highest number of the check runs of each App, if the forge has such: without one none of it counts."""
+        return {}
+
+    def of_apps(self, repository: str, commit: str, mark: Mark) -> Seen:
+        """The commit's check runs since the push, if the forge has such."""
+        return Seen()
+
     def newest(self, repository: str, commit: str, most: int) -> Iterator[Any]:
         """The newest statuses of a commit, none where the forge doesn't know it. Whoever may write to the repository
         may set some, with long texts: what can't be read is left out."""
@@ -121,12 +133,12 @@ class Statuses:
             if fault.status not in NONE:
                 raise
 
-    def listed(self, path: str, member: str) -> Iterator[Any]:
-        """A list that comes by pages as a member of an object, which says how many there are in all. A page may be smaller
-        than asked for."""
+    def listed(self, path: str, member: str, many: int = PAGE) -> Iterator[Any]:
+        """A list that comes by pages as a member of an object, which says how many there are in all. A page may be
+        smaller than asked for."""
         size, read = self.page_size, 0
         for page in range(1, PAGES + 1):
-            where = f"{path}{'&' if '?' in path else '?'}{size}={PAGE}&page={page}"
+            where = f"{path}{'&' if '?' in path else '?'}{size}={many}&page={page}"
             said = self.api.find("GET", where, none=NONE)
             rows = said[member] if said is not None else []
             yield from rows
@@ -167,8 +179,56 @@ class Statuses:
 
 
 class OfGitHub(Statuses):
-    """GitHub: workflow runs with their jobs, and statuses. Check runs aren't read: a token of a workflow makes them in
-    the name of all workflows, of any commit."""
+    """GitHub: workflow runs with their jobs, statuses, and check runs of the Apps that the settings trust. Those of
+    Actions aren't read: a token of a workflow makes them in the name of all workflows, of any commit."""
+
+    def checks(self, repository: str, commit: str, app: int) -> list[Any] | None:
+        """An App's check runs of a commit; none where they are more than are read, since their order isn't documented.
+        All are asked for: GitHub's `latest` goes by the time of their ends, which a new one doesn't have yet."""
+        query = urllib.parse.urlencode({"app_id": app, "filter": "all"})
+        path = f"{self.forge.repository(repository)}/commits/{commit}/check-runs?{query}"
+        found = list(itertools.islice(self.listed(path, "check_runs", CHECKS_PAGE), CHECKS + 1))
+        return None if len(found) > CHECKS else [
+            it for it in found if (app_of(it).get("id"), it["head_sha"]) == (app, commit) and not self.why_not(it)]
+
+    def checks_before(self, repository: str, commit: str) -> dict[str, int]:
+        found = {app: self.checks(repository, commit, app) for app in self.apps}
+        return {str(app): max((int(it["id"]) for it in rows), default=0)
+                for app, rows in found.items() if rows is not None}
+
+    def of_apps(self, repository: str, commit: str, mark: Mark) -> Seen:
+        """One check suite is made of an App and a commit, with the branch that was pushed first: so a check run knows
+        nothing but the commit, as a status does."""
+        reports, uncounted, is_cut = list[Report](), dict[str, None](), False
+        for app in self.apps:
+            rows, before = self.checks(repository, commit, app), mark.checks.get(str(app))
+            is_cut = is_cut or rows is None
+            for it in rows or ():
+                if before is None:
+                    uncounted[f"{shown(str(it['name']))} (of App {app}, not asked for before the push)"] = None
+                elif int(it["id"]) > before:
+                    reports.append(Report(str(it["name"]), int(it["id"]), word_of(it), link_of(it.get("details_url")),
+                                          True, app))
+        if self.apps and not reports:
+            uncounted.update(self.of_other_apps(repository, commit))
+        return Seen(tuple(reports), tuple(itertools.islice(uncounted, UNCOUNTED)), (), is_cut)
+
+    def of_other_apps(self, repository: str, commit: str) -> dict[str, None]:
+        """Check runs that don't count whenever they came, as many as stand on a page, if it can be read: they are only
+        named."""
+        path = f"{self.forge.repository(repository)}/commits/{commit}/check-runs?filter=all"
+        try:
+            found = list(itertools.islice(self.listed(path, "check_runs", CHECKS_PAGE), CHECKS_PAGE))
+        except TooLarge:
+            return {}
+        return dict.fromkeys(f"{shown(str(it['name']))} {why}" for it in found if (why := self.why_not(it)))
+
+    def why_not(self, check: Any) -> str | None:
+        """Why no check run of an App counts, if that is so."""
+        app = app_of(check)
+        if app.get("slug") == ACTIONS:
+            return "(of Actions, whose jobs count by their runs)"
+        return None if app.get("id") in self.apps else f"(of App {app.get('id')}, which isn't in ci.trusted_apps)"
 
     def runs(self, repository: str, branch: str, commit: str) -> list[Any]:
         query = urllib.parse.urlencode({"branch": branch, "head_sha": commit, "event": "push"})
@@ -261,7 +321,7 @@ OF_FORM: dict[str, type[Statuses]] = {"github": OfGitHub, "gitea": OfGitea, "git
 
 def statuses_of(ci: Ci, notes: Notes) -> Statuses:
     """The forge of the settings, asked by their token."""
-    return OF_FORM[ci.form](FORMS[ci.form](ci.url, ci.token, ci.secret or "-"), ci, notes)
+    return OF_FORM[ci.form](CLIENTS[ci.form](ci.url, ci.token, ci.secret or "-"), ci, notes)
 
 
 class Trusted:
@@ -294,6 +354,11 @@ class Trusted:
         if account is not None and account in self.accounts.values():
             return None
         return f"(of account {account}, which isn't in ci.trusted)"
+
+
+def app_of(check: Any) -> Any:
+    """The App of a check run."""
+    return check.get("app") or {}
 
 
 def word_of(it: Any) -> str:

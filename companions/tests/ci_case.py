@@ -43,10 +43,12 @@ class CiGate(PretendGate):
 
 
 class CiCase(unittest.TestCase):
-    """Two projects of one queue. `jobs` are the tables of the first one's jobs, `more` the rest of the settings."""
+    """Two projects of one queue. `jobs` are the tables of the first one's jobs, `more` the rest of the settings. The
+    forge is asked about each run every `asks` seconds, by default in each turn: so what hasn't come after some turns
+    was looked at, and wasn't believed."""
     kind = "github"
     jobs = '[[project.job]]\nname = "unit"\nstatus = "ci/unit"\nlimit = 60\n'
-    parallel, begins, look, more = 20, 900.0, 0.05, ""
+    parallel, begins, look, asks, more = 20, 900.0, 0.05, 0.0001, ""
 
     def setUp(self) -> None:
         temporary = tempfile.TemporaryDirectory()
@@ -92,7 +94,7 @@ secret = "{self.forge.secret}"
 trusted = ["buildbot"]
 parallel = {given["parallel"]}
 begins = {given["begins"]}
-look = 0.05
+look = {self.asks}
 {given["more"]}
 [[project]]
 name = "lib"

@@ -1,11 +1,11 @@
 from __future__ import annotations
 
 import unittest
-from typing import Any
 from unittest import mock
 
 from companions import ci, links
 from companions.ids import id_of, success_id
+from companions.repository import GitFault, Repository
 from companions.tests.ci_case import LIB, CiCase
 from companions.tests.forge import message_of
 from companions.tests.worker_case import Said
@@ -183,6 +183,39 @@ class Shared(CiCase):
         run.set("ci/docs", "success")
         self.assertEqual(self.ended(8), "success")
 
+    def test_a_job_over_its_limit_ends_no_other_one(self) -> None:
+        self.again(jobs=self.jobs.replace("limit = 60", "limit = 0.3", 1))
+        self.give(self.reply(7, 103), self.reply(8, 103, "docs"))
+        run = self.run_of(7)
+        run.set("ci/unit", "in_progress")
+        self.assertEqual(self.ended(7), "failure")
+        self.turn(3)
+        self.assertEqual((run.is_cancelled, len(self.branches())), (False, 1))
+        run.set("ci/docs", "success")
+        self.assertEqual(self.ended(8), "success")
+        self.until(lambda: not self.branches())
+        self.assertTrue(run.is_cancelled)
+
+    def test_no_build_joins_a_run_that_is_being_taken_away(self) -> None:
+        """What still ran of it was cancelled, and its branch can't be deleted just now."""
+        self.give(self.reply(7, 103))
+        first = self.run_of(7)
+        for job in ("ci/unit", "ci/docs"):
+            first.set(job, "in_progress")
+        self.turn(2)
+        with mock.patch.object(Repository, "remove", side_effect=GitFault("the repository is away")):
+            self.unwanted(7)
+            self.until(lambda: first.is_cancelled)
+            self.give(self.reply(8, 103, "docs"))
+            self.until(lambda: 8 in [it["build"] for it in self.gate.shown.values()])
+            self.turn(5)
+        self.assertEqual(self.outcomes(), [])
+        second = self.run_of(8)
+        self.assertEqual(second.commit, first.commit)
+        second.set("ci/docs", "success")
+        self.assertEqual(self.ended(8), "success")
+        self.until(lambda: not self.branches())
+
 
 class OtherProjects(CiCase):
     def test_what_is_on_no_branch_goes_to_the_other_repository(self) -> None:
@@ -259,9 +292,9 @@ class Result(CiCase):
 
 class Main(CiCase):
     def test_a_wrong_call_is_told(self) -> None:
-        for argv in ([], ["companions.toml"], ["companions.toml", "../w1"], ["companions.toml", ""]):
+        for argv in (list[str](), ["companions.toml"], ["companions.toml", "../w1"], ["companions.toml", ""]):
             self.assertEqual(ci.main(argv), 2)
-        self.assertIn(ci.USAGE, self.errors.getvalue())
+        self.assertIn("usage: python3 -m companions.ci companions.toml NAME\n", self.errors.getvalue())
 
     def test_settings_without_a_forge_or_a_status_are_refused(self) -> None:
         file = self.write_settings()

@@ -35,6 +35,20 @@ class Commands(CiCase):
         self.unwanted(7)
         self.until(lambda: "build 7: not wanted any more" in self.errors.getvalue())
 
+    def test_the_watch_hears_of_a_command_that_runs(self) -> None:
+        self.again(jobs=self.docs("sleep 100"))
+        self.give(self.reply(7, 103, "docs"))
+        self.until(lambda: self.beats() == [(7, False)])
+        self.unwanted(7)
+        self.until(lambda: self.beats() == [(None, False)])
+
+    def beats(self) -> list[tuple[int | None, bool]]:
+        """What the watch hears by now."""
+        self.gate.beats.clear()
+        self.ci.beating.gate.timeout = 30.0
+        self.ci.beating.beat()
+        return [(it.build, it.held) for it in self.gate.beats]
+
     def test_nothing_is_taken_while_no_command_could_be_run(self) -> None:
         self.again(jobs=self.docs("sleep 100"))
         self.give(*(self.reply(number, 103, "docs") for number in (1, 2, 3)))

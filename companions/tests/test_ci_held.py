@@ -148,6 +148,16 @@ class Held(CiCase):
         self.assertEqual(self.ended(7), "lost")
         self.assertEqual(self.why(7), "the CI says of ci/unit: startup failure, it didn't start")
 
+    def test_another_workflow_that_can_not_be_read_says_nothing(self) -> None:
+        """It has ended, and the one that has the job goes on."""
+        self.give(self.reply(7, 103))
+        broken, run = self.run_of(7), self.run_of(7)
+        broken.word = "failure"
+        self.until(lambda: "build 7: held: no status ci/unit came within 0.3 s" in self.errors.getvalue())
+        self.turn(3)
+        self.assertEqual(self.outcomes(), [])
+        run.set("ci/unit", "success")
+        self.assertEqual(self.ended(7), "success")
 
     def test_a_run_that_went_well_without_jobs_is_no_success(self) -> None:
         """As where its jobs can't be had for a moment: the one that is waited for may have been skipped."""
@@ -166,7 +176,8 @@ class Uncounted(CiCase):
         self.model.statuses += [Status("acme/lib", commit, "success", "", "mallory", context="x", number=1000 + it)
                                 for it in range(2100)]
         self.again(begins=0.1)
-        self.until(lambda: "; not counted: more statuses than are read, x (of account" in self.errors.getvalue())
+        self.until(lambda: "; not counted: more statuses or check runs than are read, x (of account" in
+                   self.errors.getvalue())
 
 
 if __name__ == "__main__":

@@ -9,8 +9,9 @@ import tempfile
 import unittest
 from pathlib import Path
 from typing import Any
+from unittest import mock
 
-from companions import settings
+from companions import ci_queue, settings
 from companions.ci_hooks import commits_of, serve_hooks
 from companions.tests.ci_case import CiCase
 from companions.tests.forges import CLIENTS
@@ -22,18 +23,22 @@ ONE, TWO = "1" * 40, "2" * 64
 class Commits(unittest.TestCase):
     def test_each_kind_of_hook_names_its_commit(self) -> None:
         """As the forges document them."""
-        for said in ({"sha": ONE, "context": "ci/unit", "state": "success", "commit": {"sha": ONE}},
-                     {"action": "completed", "check_run": {"id": 4, "head_sha": ONE}},
-                     {"action": "completed", "workflow_run": {"id": 4, "head_sha": ONE, "head_branch": "gate/core/x"}},
-                     {"action": "completed", "workflow_job": {"id": 4, "head_sha": ONE}},
-                     {"object_kind": "pipeline", "object_attributes": {"id": 31, "sha": ONE}, "commit": {"id": ONE}},
-                     {"object_kind": "build", "sha": ONE, "build_id": 7, "commit": {"id": 7, "sha": ONE}}):
+        hooks: list[dict[str, Any]] = [
+            {"sha": ONE, "context": "ci/unit", "state": "success", "commit": {"sha": ONE}},
+            {"action": "completed", "check_run": {"id": 4, "head_sha": ONE}},
+            {"action": "completed", "workflow_run": {"id": 4, "head_sha": ONE, "head_branch": "gate/core/x"}},
+            {"action": "completed", "workflow_job": {"id": 4, "head_sha": ONE}},
+            {"object_kind": "pipeline", "object_attributes": {"id": 31, "sha": ONE}, "commit": {"id": ONE}},
+            {"object_kind": "build", "sha": ONE, "build_id": 7, "commit": {"id": 7, "sha": ONE}}]
+        for said in hooks:
             self.assertEqual(commits_of(said), {ONE})
         self.assertEqual(commits_of({"sha": TWO}), {TWO})
 
     def test_what_names_none_says_nothing(self) -> None:
-        for said in ({}, {"sha": None}, {"sha": "A" * 40}, {"sha": "x" * 40}, {"sha": [ONE]}, {"commit": ONE},
-                     {"sha": ONE + "\n"}, {"workflow_run": [ONE]}, {"sha": "1" * 10**6}):
+        hooks: list[dict[str, Any]] = [
+            {}, {"sha": None}, {"sha": "A" * 40}, {"sha": "x" * 40}, {"sha": [ONE]}, {"commit": ONE},
+            {"sha": ONE + "\n"}, {"workflow_run": [ONE]}, {"sha": "1" * 10**6}]
+        for said in hooks:
             self.assertEqual(commits_of(said), set())
 
 
@@ -84,12 +89,7 @@ class Served(unittest.TestCase):
 
 
 class Looks(CiCase):
-    more = ""
-
-    def write_settings(self, **changed: Any) -> Path:
-        file = super().write_settings(**changed)
-        file.write_text(file.read_text().replace("\nlook = 0.05\n\n", "\nlook = 3600\n"))
-        return file
+    asks = 3600.0
 
     def test_a_hook_has_a_run_looked_at_at_once(self) -> None:
         """It is asked for once an hour otherwise."""
@@ -107,6 +107,28 @@ class Looks(CiCase):
         self.ci.look_at(run.commit)
         self.assertTrue(self.ci.came.is_set())
         self.assertEqual(self.ended(7), "success")
+
+    def test_very_many_hooks_cost_few_calls(self) -> None:
+        """As of somebody who sets a status of the commit again and again. No news is lost by that."""
+        with mock.patch.object(ci_queue, "AT_ONCE", 3):
+            self.again()
+        self.give(self.reply(7, 103))
+        run = self.run_of(7)
+        self.turn(3)
+        self.assertEqual([self.looked(run.commit) for _ in range(8)], 3 * [True] + 5 * [False])
+        paces = self.ci.queues["core"].paces
+        self.assertEqual(paces.gap, 30.0)
+        paces.gap = 0.0
+        run.set("ci/unit", "success")
+        self.ci.look_at(run.commit)
+        self.assertEqual(self.ended(7), "success")
+
+    def looked(self, commit: str) -> bool:
+        """Whether the forge is asked after a hook."""
+        asked = len(self.forge.server.asked)
+        self.ci.look_at(commit)
+        self.turn(2)
+        return len(self.forge.server.asked) > asked
 
 
 if __name__ == "__main__":

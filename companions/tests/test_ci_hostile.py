@@ -2,6 +2,7 @@
 from __future__ import annotations
 
 import unittest
+from pathlib import Path
 
 from companions.tests.ci_case import LIB, CiCase
 
@@ -41,7 +42,9 @@ class Hostile(CiCase):
             self.until(lambda: not self.branches())
 
     def test_a_branch_that_stands_there_already_is_deleted_first(self) -> None:
-        """As one that a restored gate finds under the same name; what ran of it before says nothing."""
+        """As one that a restored gate finds under the same name: else its CI would hear of no push, since git takes a
+        branch at the same commit for pushed. What ran of it before says nothing."""
+        told = self.pushes()
         self.give(self.reply(7, 103))
         run = self.run_of(7)
         run.set("ci/unit", "success")
@@ -50,8 +53,10 @@ class Hostile(CiCase):
         self.gate.taken.clear()
         for times, there in enumerate((self.heads["lib"], run.commit), 2):
             self.lib.name(f"refs/heads/{run.branch}", there)
+            told.write_text("")
             self.give(self.reply(7, 103))
             self.until(lambda: self.errors.getvalue().count(f"pushed {run.branch}") == times)
+            self.assertEqual(told.read_text().splitlines(), [f"{there} {'0' * 40}", f"{'0' * 40} {run.commit}"])
             self.assertEqual(self.branches(), {f"refs/heads/{run.branch}": run.commit})
             self.turn(5)
             self.assertEqual(len(self.outcomes()), times - 1)
@@ -59,6 +64,14 @@ class Hostile(CiCase):
             self.until(lambda: self.outcomes()[times - 1:] == [(7, "failure")])
             self.until(lambda: not self.branches())
             self.gate.taken.clear()
+
+    def pushes(self) -> Path:
+        """A file with what a forge would tell its CI: what each pushed branch was, and what it is by now."""
+        file, hook = self.folder / "told", self.lib.folder / "hooks" / "post-receive"
+        hook.parent.mkdir(exist_ok=True)
+        hook.write_text(f'#!/bin/sh\nwhile read -r old new name; do echo "$old $new" >>"{file}"; done\n')
+        hook.chmod(0o755)
+        return file
 
     def test_names_that_look_alike_stay(self) -> None:
         """A writer has made branches and tags whose names end as a run's, or begin so."""

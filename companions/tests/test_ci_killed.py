@@ -132,13 +132,35 @@ class Points(CiCase):
                 word = name.rpartition(".")[2]
                 if word == "post":
                     # The main thread's take finds nothing, and isn't sent meanwhile.
-                    self.ci.has_room = lambda: False  # type: ignore[method-assign]
+                    self.ci.has_room = lambda: False  # type: ignore[assignment]
                 with self.dying(where, word, after=after):
                     self.dies()
                 self.again()
                 self.until(lambda: not self.branches())
                 self.assertEqual(set(self.outcomes()), {(7, "success")})
                 self.assertEqual(len({it["id"] for it in self.gate.results}), 1)
+
+    def test_what_is_of_no_use_is_cancelled_by_the_next_start(self) -> None:
+        """It dies once a build is dropped, or once its end over the limit is noted, and before it has cancelled."""
+        for name, limit in (("drop", "limit = 60"), ("note", "limit = 0.3")):
+            with self.subTest(name):
+                jobs = self.jobs.replace("limit = 60", limit)
+                self.again(jobs=jobs)
+                self.gate.taken.clear()
+                self.model.ran.clear()
+                self.give(self.reply(7, 103))
+                run = self.run_of(7)
+                run.set("ci/unit", "in_progress")
+                [build] = self.ci.queues["core"].builds.values()
+                self.until(lambda it=build: it.link)
+                if name == "drop":
+                    self.unwanted(7)
+                with self.dying(Notes if name == "drop" else self.ci.queues["core"], name):
+                    self.dies()
+                self.assertFalse(run.is_cancelled)
+                self.again(jobs=jobs)
+                self.until(lambda: not self.branches())
+                self.assertTrue(run.is_cancelled)
 
     def test_what_no_live_build_has_is_taken_away(self) -> None:
         """Branches of runs that aren't known any more, as after its folder was lost. Those of others stay."""
@@ -202,6 +224,7 @@ class Points(CiCase):
 
 class Process(CiCase):
     """The program itself. A CI beside it runs what it finds on the branches."""
+    asks = 0.05
     jobs = BOTH + '[[project.job]]\nname = "lint"\ncommand = "sleep 0.3; cat text"\nlimit = 60\n'
 
     def setUp(self) -> None:
@@ -238,9 +261,9 @@ class Process(CiCase):
                     for job in ("ci/unit", "ci/docs"):
                         run.set(job, "in_progress")
         for run in self.runs.values():
-            for job in run.jobs:
-                if job.word == "in_progress" and chance.random() < 0.3:
-                    job.word = "success"
+            for of_run in run.jobs:
+                if of_run.word == "in_progress" and chance.random() < 0.3:
+                    of_run.word = "success"
 
     def test_it_may_be_killed_anywhere(self) -> None:
         chance, replies = random.Random(3), []

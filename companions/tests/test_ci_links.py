@@ -79,7 +79,8 @@ class Page(unittest.TestCase):
         self.file.look()
         self.assertEqual([*(self.folder / "page").iterdir()], [])
         Links(self.folder).put(Link(7, 101, 1, "unit", CI))
-        for number, link in enumerate(("javascript:alert(1)", "data:text/html,x", "", "//ci.example/", "file:///etc"), 8):
+        links = ("javascript:alert(1)", "data:text/html,x", "", "//ci.example/", "file:///etc")
+        for number, link in enumerate(links, 8):
             Links(self.folder).put(Link(number, 101, 1, "unit", link))
         self.file.look()
         self.assertEqual(self.written(), [{"build": 7, "change": 101, "revision": 1, "job": "unit", "link": CI}])

@@ -1,11 +1,14 @@
 from __future__ import annotations
 
 import unittest
+from pathlib import Path
+from unittest import mock
 
 from companions import settings
 from companions.ci_settings import Ci
 from companions.faults import OtherSettings
-from companions.settings import Job, SettingsFault
+from companions.reader import SettingsFault
+from companions.settings import Job
 from companions.tests.test_core import ADAPTER, WHOLE, Case
 from companions.tests.worker_case import WorkerCase
 from companions.worker import Worker
@@ -52,6 +55,15 @@ class Settings(Case):
         self.assertEqual(self.read(only + CI).limit_of("core", "unit"), 120.0)
         self.assertEqual(self.read(only.replace('status = "ci/unit"', 'command = "x"')).limit_of("core", "unit"), 60.0)
 
+    def test_defaults(self) -> None:
+        """They are those of the page's table."""
+        known = self.read(STATUS).ci
+        self.assertEqual((known.parallel, known.commands, known.begins, known.look), (20, 4, 900.0, 30.0))
+        self.assertEqual((known.trusted, known.trusted_apps, known.port), (frozenset(), frozenset(), None))
+        page = (Path(__file__).resolve().parents[2] / "docs" / "CONNECTING.md").read_text(encoding="utf-8")
+        for member in ("parallel", "commands", "begins", "look"):
+            self.assertRegex(page, rf"(?m)^\| `ci\.{member}` \| .* \| {getattr(known, member):g} \|$")
+
     def test_the_forge_is_the_adapters_unless_the_table_names_one(self) -> None:
         self.assertEqual(self.read(STATUS).ci, Ci())
         self.assertFalse(self.read(STATUS).ci.has_forge)
@@ -60,6 +72,25 @@ class Settings(Case):
         self.assertEqual(self.read(STATUS + ADAPTER + CI).ci, Ci(
             3, 2, 60.0, 5.0, frozenset({"buildbot", "jenkins"}), "gitea", "https://git.example/api/v1", "t2", "s2",
             "127.0.0.1", 8091))
+
+    def test_apps_of_github_are_given_by_their_numbers(self) -> None:
+        text = STATUS + ADAPTER + "[ci]\ntrusted_apps = "
+        self.assertEqual(self.read(text + "[12345, 7]").ci.trusted_apps, frozenset({7, 12345}))
+        self.assertEqual(self.read(text + "[]").ci.trusted_apps, frozenset())
+        # A file without the forge, as a worker's.
+        self.assertEqual(self.read(STATUS + "[ci]\ntrusted_apps = [7]").ci.trusted_apps, frozenset({7}))
+        self.assertEqual(len(self.read(text + str(list(range(1, 11)))).ci.trusted_apps), 10)
+        numbers = "ci.trusted_apps: isn't an array of the numbers of Apps, as [12345]"
+        for given, told in (
+                ('["circleci"]', numbers), ("12345", numbers), ("[true]", numbers), ("[0]", numbers), ("[-7]", numbers),
+                ("[1.5]", numbers), (f"[{10 ** 18}]", numbers), ('["12345"]', numbers),
+                ("[7, 15368]", "ci.trusted_apps: 15368 is the App of Actions, by which the workflows of all branches"
+                               " speak: leave it out, and their jobs count by branch, commit and event"),
+                (str(list(range(1, 12))), "ci.trusted_apps: has more than 10 Apps"),
+                *((f'[7]\nform = "{it}"', f"ci.trusted_apps: is for the check runs of GitHub's Apps, and {it} has none")
+                  for it in ("gitea", "gitlab"))):
+            with self.subTest(given):
+                self.assertEqual(self.refused(text + given), told)
 
     def test_each_fault_is_told_with_its_member(self) -> None:
         for old, new, told in (
@@ -85,6 +116,10 @@ class Settings(Case):
                 ("parallel = 3", "parallel = 0", "ci.parallel: isn't above 0"),
                 ("begins = 60", "begins = 0", "ci.begins: isn't above 0"),
                 ('["buildbot", "jenkins"]', '"buildbot"', "ci.trusted: isn't an array of texts"),
+                *(('["buildbot", "jenkins"]', f'["buildbot", "{it}"]',
+                   f"ci.trusted: {it} is an account by which the workflows of all branches speak: leave it out, and"
+                   " their jobs count by branch, commit and event")
+                  for it in ("github-actions", "GitHub-Actions[bot]", "gitea-actions")),
                 ("look = 5", "looks = 5", "ci.looks: isn't known")):
             with self.subTest(told):
                 self.assertIn(old, STATUS + CI)
@@ -97,12 +132,15 @@ class OfAWorker(WorkerCase):
         text = file.read_text()
         file.write_text(text.replace(f"command = '''{self.command}'''", 'status = "ci/unit"'))
         worker = Worker(settings.read(file), "w2", self.clock)
+        with mock.patch.object(worker, "begin", side_effect=OtherSettings), \
+                mock.patch.object(worker.beating, "start"), self.assertRaises(OtherSettings):
+            worker.run()
+        said = [it for it in self.errors.getvalue().splitlines(True) if "takes nothing" in it]
         worker.begin()
-        worker.say_of_ci()
         worker.turn()
         worker.turn()
         self.assertEqual(self.kinds(), [])
-        self.assertEqual(self.errors.getvalue(), "worker w2: takes nothing: a CI runs jobs of lib (status), and the"
+        self.assertEqual("".join(said), "worker w2: takes nothing: a CI runs jobs of lib (status), and the"
                          " gate gives any job to whoever asks first: run companions.ci for this gate, which runs the"
                          " commands too\n")
         file.write_text("no settings")

@@ -234,11 +234,6 @@ class GitHub(Common):
             run.set(word, word)
         self.assertEqual(self.words(), sorted((it, it) for it in words))
 
-    def test_check_runs_are_not_asked_for(self) -> None:
-        """With the token of a workflow anybody who may push makes one in the name of all workflows, of any commit."""
-        self.look()
-        self.assertEqual([path for _, path in self.forge.server.asked if "check" in path], [])
-
 
 class Gitea(Common):
     kind = "gitea"
