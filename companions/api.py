@@ -9,12 +9,12 @@ import re
 import time
 import urllib.parse
 from collections.abc import Iterator, Mapping
-from dataclasses import dataclass
 from datetime import datetime
 from typing import Any
 
 from companions.connections import within
 from companions.gate import say
+from companions.kept_answers import Content, KeptAnswers
 from companions.rests import Hourly, Rests
 from companions.tokens import HEADER, Ending
 
@@ -25,7 +25,8 @@ LARGEST = 8 * 1024 * 1024
 PAGE = 50
 SMALLER = {PAGE: 10, 10: 1}
 
-# The most calls of smaller pages that one reading of a list takes, and the most pages of a list of comments.
+# The most calls of smaller pages that one look takes, or one reading of another list; and the most pages of a list of
+# comments.
 MOST_CALLS = 100
 
 # The longest pause that a forge is believed to ask for, in seconds, and how long it isn't asked at first if it refuses
@@ -38,9 +39,6 @@ MOST_MOVES = 4
 # The kinds of calls, and by which words forges refuse for a limit where they don't name it by a header.
 KINDS = ("reading", "writing")
 LIMITS = re.compile("rate limit|abuse|too many requests|login attempts? exceeded", re.IGNORECASE)
-
-# The most bytes of answers that are kept to be asked for again only where they have changed.
-MOST_KEPT = 64 * 1024 * 1024
 
 
 class ForgeFault(Exception):
@@ -64,14 +62,21 @@ class Full(ForgeFault):
 
 class Unread:
     """A reading of a list in which anybody may write: what can't be read of it is left out, and that is noted here.
-    `is_whole`: it comes whole, whichever page is asked for. `is_hourly`: smaller pages of such lists are bounded by the
-    hour. `calls` are those of smaller pages. `is_capped`: the forge's pages have fewer elements than are asked for, so
-    smaller ones aren't where they are looked for."""
+    `is_whole`: it comes whole, whichever page is asked for. `kind`: smaller pages of all lists of such a kind are
+    bounded by the hour. `calls` are those of smaller pages, and `before` those of the lists that the same look has read
+    before. `is_capped`: the forge's pages have fewer elements than are asked for, so smaller ones aren't where they are
+    looked for."""
 
-    def __init__(self, is_whole: bool = False, is_hourly: bool = False) -> None:
-        self.is_whole, self.is_hourly, self.is_any, self.calls = is_whole, is_hourly, False, 0
+    def __init__(self, is_whole: bool = False, kind: str = "", before: int = 0) -> None:
+        self.is_whole, self.kind, self.is_any, self.calls = is_whole, kind, False, 0
+        self.before = before
         # The first page of each size that isn't full.
         self.is_capped, self.short = False, dict[int, int]()
+
+    @property
+    def is_spent(self) -> bool:
+        """Whether no smaller page is asked for any more."""
+        return self.before + self.calls > MOST_CALLS
 
     def see(self, size: int, page: int, many: int) -> None:
         """A page of a size has so many elements. Only the last one that has some isn't full."""
@@ -82,36 +87,6 @@ class Unread:
     def begin_again(self) -> None:
         """The list is read from its first page on, by pages of another size."""
         self.is_capped, self.short = False, {}
-
-
-@dataclass(frozen=True)
-class Content:
-    """What an answer brought: its content, the header `Link`, and a tag by which to ask whether it has changed."""
-    content: bytes
-    link: str
-    tag: str
-
-
-class KeptAnswers:
-    """The last answers that had a tag, by path. A forge sends nothing again that hasn't changed, and GitHub doesn't
-    count the question: so all open requests may be looked at every few minutes."""
-
-    def __init__(self, most: int = MOST_KEPT) -> None:
-        self.most, self.size = most, 0
-        self.of_path: dict[str, Content] = {}
-
-    def keep(self, path: str, answer: Content) -> None:
-        """Keeps an answer behind all others, and drops the oldest where they are too much."""
-        self.drop(path)
-        if answer.tag:
-            self.of_path[path] = answer
-            self.size += len(answer.content)
-        while self.size > self.most:
-            self.drop(next(iter(self.of_path)))
-
-    def drop(self, path: str) -> None:
-        old = self.of_path.pop(path, None)
-        self.size -= len(old.content) if old else 0
 
 
 class Api:
@@ -127,11 +102,11 @@ class Api:
         self.own: int | None = None
         # The forge's own time of its last answer.
         self.time: datetime | None = None
-        self.told = set[str]()
+        self.told, self.unlisted = set[str](), set[str]()
         # Where each repository is by now, by the beginnings of paths: it may have another name.
         self.names: dict[str, str] = {}
         self.refusals = Rests(REFUSED_PAUSE, LONGEST_PAUSE)
-        self.most_smaller, self.smaller = smaller, Hourly()
+        self.most_smaller, self.smaller = smaller, dict[str, Hourly]()
         self.ending = Ending()
 
     def call(self, method: str, path: str, said: Any = None) -> Any:
@@ -273,6 +248,15 @@ class Api:
                 return
             page += 1
 
+    def tell_unlisted(self, repository: str, unread: Unread) -> None:
+        """Says, once until that ends, that not all open requests of a repository can be listed."""
+        if not unread.is_any:
+            self.unlisted.discard(repository)
+        elif repository not in self.unlisted:
+            self.unlisted.add(repository)
+            say("adapter", f"{repository}: its open requests are too many, or their texts too long, to be listed: one"
+                           " that isn't listed, and that the gate wasn't told of, is looked at when a hook names it")
+
     def part(self, where: str, size: int, page: int, has_links: bool, unread: Unread,
              is_strict: bool) -> tuple[list[Any], bool]:
         """A page, and whether it is the last one. `is_strict`: nothing may be left out."""
@@ -280,17 +264,17 @@ class Api:
         if size < PAGE:
             self.count_smaller(unread)
         try:
-            if unread.calls > MOST_CALLS:
+            if unread.is_spent and unread.calls:
                 raise TooLarge(f"GET {path}: not asked, since {MOST_CALLS} smaller pages were asked for by then")
             found, link = self.answer("GET", path, None)
         except TooLarge:
             unread.see(size, page, size)
-            if unread.calls <= MOST_CALLS and size in SMALLER and not unread.is_whole:
+            if not unread.is_spent and size in SMALLER and not unread.is_whole:
                 return self.parts(where, size, page, has_links, unread, is_strict)
             if is_strict:
                 raise
             unread.is_any = True
-            return [], unread.calls > MOST_CALLS or unread.is_whole
+            return [], unread.is_spent or unread.is_whole
         with expected(path):
             if not isinstance(found, list):
                 raise TypeError("no list")
@@ -304,10 +288,10 @@ class Api:
     def count_smaller(self, unread: Unread) -> None:
         """Counts a call of a smaller page. Where the hour's are used up, so are those of this reading."""
         unread.calls += 1
-        if unread.is_hourly and self.most_smaller is not None:
-            now = time.monotonic()
-            if self.smaller.is_below(self.most_smaller, now):
-                self.smaller.count(now)
+        if unread.kind and self.most_smaller is not None:
+            now, smaller = time.monotonic(), self.smaller.setdefault(unread.kind, Hourly())
+            if smaller.is_below(self.most_smaller, now):
+                smaller.count(now)
             else:
                 unread.calls = MOST_CALLS + 1
 

@@ -41,7 +41,7 @@ class Comparisons:
 
     def begin(self, repository: str, began: Moment, numbers: Iterable[int]) -> None:
         """A comparison is begun: its moment is before that of the list."""
-        _, missed = self.at_work.get(repository, (began, set()))
+        _, missed = self.at_work.get(repository, (began, set[int]()))
         self.overdue = {it for it in self.overdue if it.repository != repository}
         self.overdue |= {Place(repository, it) for it in missed}
         self.tried = {it for it in self.tried if it.repository != repository}
@@ -69,13 +69,14 @@ class Comparisons:
 
     def is_going_on(self, repository: str) -> bool:
         """Whether a comparison is at work that has requests at which nobody has looked yet."""
-        _, numbers = self.at_work.get(repository, (None, set()))
+        _, numbers = self.at_work.get(repository, (None, set[int]()))
         return any(Place(repository, it) not in self.tried for it in numbers)
 
     def go_on(self, repository: str, number: int | None) -> None:
         """Notes that a comparison doesn't need this request any more, and that it is whole if it needs none."""
-        began, numbers = self.at_work.get(repository, (None, set()))
-        numbers.discard(number)
+        began, numbers = self.at_work.get(repository, (None, set[int]()))
+        if number is not None:
+            numbers.discard(number)
         if began is not None and not numbers:
             del self.at_work[repository]
             self.outbox.put("compared", {**(self.outbox.get("compared") or {}), repository: asdict(began)})

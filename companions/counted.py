@@ -31,8 +31,8 @@ Counts = dict[str, Any]
 
 
 class Counted:
-    """The counts of a gate. `counts` has, by queue, how items `left` by their verdict, which jobs `failed`, which builds
-    were `discarded` by job, how often the window `shrank`, and how long landings `took`."""
+    """The counts of a gate. `counts` has, by queue, how items `left` by their verdict, which jobs `failed`, which
+    builds were `discarded` by job, how often the window `shrank`, and how long landings `took`."""
 
     def __init__(self, gate: Gate, notes: Notes) -> None:
         self.gate, self.notes = gate, notes
@@ -74,7 +74,7 @@ class Counted:
             self.written = text
 
     def note_approvals(self, status: Status, now: float) -> None:
-        """Notes since when changes are approved: those that are new, since now, unless nobody has looked for a while."""
+        """Notes since when changes are approved: those that are new, since now, unless nobody has looked for long."""
         since = now if now - self.looked <= GAP else None
         for key in keys_of(status):
             self.approved.setdefault(key, since)
@@ -91,8 +91,8 @@ class Counted:
             self.counts["shrank"][it.name] = shrank + (0 < it.window < before.get(it.name, 0))
 
     def follow(self, queue: str, now: float) -> None:
-        """Counts what has left a queue since the last report that was counted. Where that doesn't stand there as it did,
-        the gate has another file, or an earlier state of its own: what is there by now isn't counted."""
+        """Counts what has left a queue since the last report that was counted. Where that doesn't stand there as it
+        did, the gate has another file, or an earlier state of its own: what is there by now isn't counted."""
         self.counts["left"].setdefault(queue, dict.fromkeys(VERDICTS, 0))
         while True:
             last = self.last.get(queue)

@@ -31,6 +31,13 @@ ELSEWHERE = "approved before its target branch was changed"
 PUSHED = "approved by a comment before the last push"
 
 
+class Headers(Protocol):
+    """The headers of a hook, found by names in small letters or large ones."""
+
+    def get(self, name: str, /) -> str | None:
+        """The value of a header, or none."""
+
+
 @dataclass(frozen=True)
 class Place:
     """A request's place: its repository, as `owner/name`, and its number there."""
@@ -66,18 +73,18 @@ class Seal(Protocol):
 
 
 class Forge(Protocol):
-    """A forge. Each call may raise `ForgeFault`. `mark` is what stands before a request's number, and `requests_at` what
-    stands before it in the address of the request's page, behind that of its repository."""
+    """A forge. Each call may raise `ForgeFault`. `mark` is what stands before a request's number, and `requests_at`
+    what stands before it in the address of the request's page, behind that of its repository."""
     mark: str
     requests_at: str
     limits: Limits
     # Whether it may show a request as open though its branch has all of it.
     leaves_open: bool
 
-    def seal_of(self, headers: Mapping[str, str]) -> Seal:
+    def seal_of(self, headers: Headers) -> Seal:
         """The seal of a hook with these headers. `PermissionError` if they alone say that it isn't signed."""
 
-    def place_of(self, headers: Mapping[str, str], body: bytes) -> Place | None:
+    def place_of(self, headers: Headers, body: bytes) -> Place | None:
         """The request that a hook is about, if it is about one, and not about what the gate wrote on it.
         `PermissionError` if it isn't signed by the secret.
 
@@ -91,7 +98,7 @@ class Forge(Protocol):
         """A request as it is now, but without its votes: by one call."""
 
     def open_requests(self, repository: str) -> dict[int, Listed]:
-        """A repository's open requests by their numbers."""
+        """A repository's open requests by their numbers, as far as they can be listed: anybody may open some."""
 
     def may_write(self, repository: str, person: str) -> bool:
         """Whether a person may write to the repository. Anybody who sees a request may vote on it."""

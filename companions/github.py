@@ -7,15 +7,15 @@ from __future__ import annotations
 
 import itertools
 import urllib.parse
-from collections.abc import Iterator, Mapping
+from collections.abc import Iterator
 from dataclasses import replace
 from datetime import datetime
 from typing import Any
 
 from companions.api import Api, ForgeFault, Full, Unread, expected
-from companions.forges import (APPROVES, Limits, Listed, Opinion, Owned, Place, Seal, Signature, approves, as_hook,
-                               at_head, at_target, check_seal, flawed, hash_of, is_by, login_of, mark_of, marked,
-                               place_at, secret_of, shown_in_list, time_of, vote_of, votes_of)
+from companions.forges import (APPROVES, Headers, Limits, Listed, Opinion, Owned, Place, Seal, Signature, approves,
+                               as_hook, at_head, at_target, check_seal, flawed, hash_of, is_by, login_of, mark_of,
+                               marked, place_at, secret_of, shown_in_list, time_of, vote_of, votes_of)
 from companions.requests import GONE, Request, State, Vote
 
 __all__ = ["APPROVES", "GitHub", "Gitea"]
@@ -33,7 +33,8 @@ class GitHub:
     """GitHub, by an access token and the secret of its hooks."""
 
     mark, requests_at = "#", "/pull/"
-    # GitHub refuses above 500 an hour, and answers 5,000 calls. All comments of requests have so many of smaller pages.
+    # GitHub refuses above 500 an hour, and answers 5,000 calls. The comments of all requests have so many of smaller
+    # pages, and their reviews too.
     limits, smaller = Limits(60, 400, 1000), 600
     leaves_open = False
     page_size = "per_page"
@@ -43,8 +44,8 @@ class GitHub:
     # The list of what was done to a request, the member that says what it was, what changes its target branch, and what
     # its head. GitHub lists only pushes that are forced.
     events, event = "events", "event"
-    target_events = ("base_ref_changed", "automatic_base_change_succeeded")
-    push_events = ("head_ref_force_pushed", "head_ref_deleted", "head_ref_restored")
+    target_events: tuple[str, ...] = ("base_ref_changed", "automatic_base_change_succeeded")
+    push_events: tuple[str, ...] = ("head_ref_force_pushed", "head_ref_deleted", "head_ref_restored")
     signature = "X-Hub-Signature-256"
     context = "gate"
 
@@ -57,10 +58,10 @@ class GitHub:
         return {"Authorization": f"Bearer {token}", "Accept": "application/vnd.github+json",
                 "X-GitHub-Api-Version": "2022-11-28"}
 
-    def seal_of(self, headers: Mapping[str, str]) -> Seal:
+    def seal_of(self, headers: Headers) -> Seal:
         return Signature(self.secret, (headers.get(self.signature) or "").removeprefix("sha256="))
 
-    def place_of(self, headers: Mapping[str, str], body: bytes) -> Place | None:
+    def place_of(self, headers: Headers, body: bytes) -> Place | None:
         check_seal(self.seal_of(headers), body)
         said = as_hook(body)
         try:
@@ -87,13 +88,21 @@ class GitHub:
         if so is None:
             return None
         with expected(self.path(place)):
+            # Reviews are read first: the calls of smaller pages that a look has are used up by nobody's comments.
+            reviews = Unread(kind="reviews")
+            given = list(self.reviews(place, reviews))
+            said = self.comments_read(reviews.calls)
+            comments = list(self.comments(place, said))
+            if said.calls and not reviews.calls:
+                # That took a while, and somebody may be against it by now.
+                reviews = Unread(kind="reviews", before=said.calls)
+                given = list(self.reviews(place, reviews))
             # At one and the same second a review counts as the later one: it may be against.
-            said, reviews = self.comments_read(), Unread()
-            found, pushed = [*self.comments(place, said), *self.reviews(place, reviews)], list[datetime]()
+            found, pushed = [*comments, *given], list[datetime]()
             if reviews.is_any:
                 found = [flawed(it, UNREVIEWED) for it in found]
             if any(it.vote.approves and it.vote.flaw is None for it in found):
-                done = Unread()
+                done = Unread(before=reviews.calls + said.calls)
                 changes = list(self.changes(place, done))
                 pushed = [at for what, at in changes if what in self.push_events]
                 found = at_target(found, [at for what, at in changes if what in self.target_events])
@@ -102,9 +111,9 @@ class GitHub:
                     found = [replace(it, vote=replace(it.vote, is_unplaced=True)) for it in found]
             return replace(so, votes=votes_of(found), is_cut=said.is_any, moved=max(pushed, default=None))
 
-    def comments_read(self) -> Unread:
-        """A reading of a request's comments."""
-        return Unread(self.has_whole_comments, is_hourly=True)
+    def comments_read(self, before: int = 0) -> Unread:
+        """A reading of a request's comments, behind so many calls of smaller pages in the same look."""
+        return Unread(self.has_whole_comments, "comments", before)
 
     def outline(self, place: Place) -> Request | None:
         said = self.api.find("GET", self.path(place))
@@ -140,7 +149,8 @@ class GitHub:
 
     def submitted(self, review: dict[str, Any]) -> str:
         """When a review was given."""
-        return review["submitted_at"]
+        at: str = review["submitted_at"]
+        return at
 
     def changes(self, place: Place, unread: Unread) -> Iterator[tuple[str, datetime]]:
         """When the request got another target branch, or another head."""
@@ -153,10 +163,13 @@ class GitHub:
         return {"APPROVED": "approves", "CHANGES_REQUESTED": "rejects", "DISMISSED": "dismissed"}.get(review["state"])
 
     def open_requests(self, repository: str) -> dict[int, Listed]:
+        unread = Unread()
         with expected(self.repository(repository)):
-            return {int(it["number"]): Listed(str(it["base"]["ref"]), shown_in_list(
-                        it.get("updated_at"), it["head"]["sha"], self.api.time))
-                    for it in self.rows(f"{self.repository(repository)}/pulls?state=open")}
+            found = {int(it["number"]): Listed(str(it["base"]["ref"]), shown_in_list(
+                         it.get("updated_at"), it["head"]["sha"], self.api.time))
+                     for it in self.rows(f"{self.repository(repository)}/pulls?state=open", unread)}
+        self.api.tell_unlisted(repository, unread)
+        return found
 
     def may_write(self, repository: str, person: str) -> bool:
         path = f"{self.repository(repository)}/collaborators/{urllib.parse.quote(person, safe='')}/permission"
@@ -247,4 +260,5 @@ class Gitea(GitHub):
         """Gitea's time of a review is that at which it was begun, and between that and the end of it its person may
         approve by a comment. So an objection is of the time at which it was changed last: it isn't before its end."""
         is_against = self.verdict(review) == "rejects"
-        return is_against and review.get("updated_at") or review["submitted_at"]
+        at: str = is_against and review.get("updated_at") or review["submitted_at"]
+        return at

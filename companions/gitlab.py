@@ -8,15 +8,16 @@ from __future__ import annotations
 import itertools
 import re
 import urllib.parse
-from collections.abc import Callable, Iterator, Mapping
+from collections.abc import Callable, Iterator
 from dataclasses import replace
 from datetime import datetime
+from operator import itemgetter
 from typing import Any
 
 from companions.api import Api, ForgeFault, Unread, expected
-from companions.forges import (PENDING, Limits, Listed, Opinion, Owned, Place, Seal, Word, approves, as_hook, at_target,
-                               check_seal, flawed, hash_of, is_by, login_of, mark_of, marked, place_at, secret_of,
-                               shown_in_list, time_of, vote_of, votes_of)
+from companions.forges import (PENDING, Headers, Limits, Listed, Opinion, Owned, Place, Seal, Word, approves, as_hook,
+                               at_target, check_seal, flawed, hash_of, is_by, login_of, mark_of, marked, place_at,
+                               secret_of, shown_in_list, time_of, vote_of, votes_of)
 from companions.requests import Request, State, Vote
 
 STATES = {"opened": State.OPEN, "locked": State.OPEN, "closed": State.CLOSED, "merged": State.MERGED}
@@ -46,7 +47,7 @@ class Versions:
 
     def all(self) -> list[tuple[datetime, str]]:
         if not self.is_asked:
-            rows = sorted(self.rows(self.unread), key=lambda it: it["id"])
+            rows = sorted(self.rows(self.unread), key=itemgetter("id"))
             self.read = [(time_of(it["created_at"]), hash_of(it["head_commit_sha"])) for it in rows]
             self.is_asked = True
         return self.read
@@ -64,10 +65,10 @@ class GitLab:
         self.secret = secret_of(secret)
         self.owned = Owned()
 
-    def seal_of(self, headers: Mapping[str, str]) -> Seal:
+    def seal_of(self, headers: Headers) -> Seal:
         return Word(self.secret, headers.get("X-Gitlab-Token"))
 
-    def place_of(self, headers: Mapping[str, str], body: bytes) -> Place | None:
+    def place_of(self, headers: Headers, body: bytes) -> Place | None:
         check_seal(self.seal_of(headers), body)
         said = as_hook(body)
         # Issues and pipelines have numbers too.
@@ -144,10 +145,13 @@ class GitLab:
                               vote_of(it, name, person, account, commit)), not it["system"]
 
     def open_requests(self, repository: str) -> dict[int, Listed]:
+        unread = Unread()
         with expected(self.project(repository)):
-            return {int(it["iid"]): Listed(str(it["target_branch"]), shown_in_list(
-                        it.get("updated_at"), it.get("sha"), self.api.time))
-                    for it in self.rows(f"{self.project(repository)}/merge_requests?state=opened")}
+            found = {int(it["iid"]): Listed(str(it["target_branch"]), shown_in_list(
+                         it.get("updated_at"), it.get("sha"), self.api.time))
+                     for it in self.rows(f"{self.project(repository)}/merge_requests?state=opened", unread)}
+        self.api.tell_unlisted(repository, unread)
+        return found
 
     def may_write(self, repository: str, person: str) -> bool:
         path = f"{self.project(repository)}/members/all"

@@ -56,9 +56,11 @@ class Looked:
                   ) -> set[int]:
         """The requests of a repository's list that haven't changed since they were looked at, which is as good as a
         look. The list was asked for at an uptime and had its answer at a time of the forge's."""
-        for held in (self.well, self.listed, self.settled):
-            for place in [it for it in held if it.repository == repository and it.number not in shown]:
-                del held[place]  # type: ignore[attr-defined]
+        for place in {*self.well, *self.listed, *self.settled}:
+            if place.repository == repository and place.number not in shown:
+                self.well.pop(place, None)
+                self.listed.pop(place, None)
+                self.settled.pop(place, None)
         self.listed.update({Place(repository, number): it for number, it in shown.items()})
         found = {number for number, it in shown.items()
                  if it is not None and self.settled.get(Place(repository, number)) == it}

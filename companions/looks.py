@@ -88,7 +88,7 @@ class Looks:
         except BaseException:
             self.looked.failed(place)
             raise
-        self.named.note(place, so and Known(so.target, so.state))
+        self.named.note(place, Known(so.target, so.state) if so is not None else None)
         if so is None:
             self.looked.failed(place)
             if self.changes.of_request(place):
@@ -360,7 +360,9 @@ class Looks:
     def stands_for(self, place: Place) -> Stands | None:
         """What a request is to those that name it, where that is known without a question."""
         seen = self.named.peek(place)
-        return seen and (seen.known, seen.known and self.change_of(place, seen.known.target))
+        if seen is None:
+            return None
+        return seen.known, self.change_of(place, seen.known.target) if seen.known is not None else None
 
     def unchanged(self, repository: str, shown: Mapping[int, Listed], began: float, at: datetime | None) -> set[int]:
         """The requests of a repository's list that needn't be looked at: neither they have changed since a look, nor

@@ -3,10 +3,11 @@ from __future__ import annotations
 
 import os
 from pathlib import Path
-from typing import Any
+from typing import Any, TypeVar
 
 KINDS = {str: "a text", bool: "true or false", int: "a whole number", float: "a number", dict: "a table",
          list: "an array of tables"}
+T = TypeVar("T")
 
 
 class SettingsFault(Exception):
@@ -22,17 +23,19 @@ class Reader:
     def fault(self, member: str, what: str) -> SettingsFault:
         return SettingsFault(f"{self.file}: {self.where}{member}: {what}")
 
-    def get(self, member: str, kind: type, default: Any = None) -> Any:
+    def get(self, member: str, kind: type[T], default: T | None = None) -> T:
         """A member, which has to be there where there is no default."""
         self.read.add(member)
         if member not in self.table:
             if default is None:
                 raise self.fault(member, "is missing")
             return default
-        value = self.table[member]
+        value: object = self.table[member]
         if kind is float and type(value) is int:
             value = float(value)
-        if type(value) is not kind or kind is list and not all(type(it) is dict for it in value):
+        # A truth value isn't a number, although its class says so.
+        if not isinstance(value, kind) or type(value) is not kind or (
+                isinstance(value, list) and not all(type(it) is dict for it in value)):
             raise self.fault(member, f"isn't {KINDS[kind]}")
         return value
 
@@ -88,6 +91,14 @@ class Reader:
             return default
         if type(value) is not list or not all(type(it) is int and 1 <= it <= 255 for it in value):
             raise self.fault(member, "isn't an array of exit statuses from 1 to 255")
+        return frozenset(value)
+
+    def numbers(self, member: str, what: str) -> frozenset[int]:
+        """An array of numbers, none where it isn't there."""
+        self.read.add(member)
+        value = self.table.get(member, [])
+        if type(value) is not list or not all(type(it) is int and 0 < it < 10 ** 18 for it in value):
+            raise self.fault(member, f"isn't an array of {what}")
         return frozenset(value)
 
     def count(self, member: str, default: int) -> int:

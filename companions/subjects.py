@@ -108,9 +108,9 @@ class Subjects:
         """The requests that aren't over, and of those that are the last ones, which have ended since a time."""
         rows = self.tables.execute(f"{SHOWN} is_over = 0 ORDER BY request.change").fetchall()
         rows += self.tables.execute(f"{SHOWN} ended > ? ORDER BY ended DESC LIMIT ?", (since, most))
-        return [Shown(Place(*row[:2]), *row[2:5], tuple(json.loads(row[5])), tuple(
-            Told(number, commit, tuple(needs), *votes) for number, commit, needs, *votes in json.loads(row[6])))
-                for row in rows]
+        return [Shown(Place(repository, number), change, title, author, tuple(json.loads(said)), tuple(
+            Told(it, commit, tuple(needs), *votes) for it, commit, needs, *votes in json.loads(revisions)))
+                for repository, number, change, title, author, said, revisions in rows]
 
     def named(self, change: int) -> tuple[Place, str, str]:
         """The request of a change, its title and its author."""

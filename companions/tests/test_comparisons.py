@@ -57,7 +57,7 @@ class Left(Leaving):
             listed.append(Moment.now())
             return numbers(repository)
 
-        self.forge.open_requests = open_requests  # type: ignore[method-assign]
+        self.forge.open_requests = open_requests  # type: ignore[assignment]
         self.be(12, 0)
         self.look()
         self.assertLessEqual(self.began().uptime, listed[0].uptime)
@@ -110,11 +110,11 @@ class Left(Leaving):
         def fail(repository: str) -> dict[int, Listed]:
             raise ForgeFault("GET /pulls: status 500")
 
-        numbers, self.forge.open_requests = self.forge.open_requests, fail  # type: ignore[method-assign]
+        numbers, self.forge.open_requests = self.forge.open_requests, fail  # type: ignore[assignment]
         self.be(12, 0)
         self.look()
         self.assertIsNone(self.lib().began)
-        self.forge.open_requests = numbers  # type: ignore[method-assign]
+        self.forge.open_requests = numbers  # type: ignore[assignment]
         self.look()
         self.assertIsNotNone(self.lib().began)
 

@@ -99,10 +99,10 @@ class Leaving(Counting):
         self.leave(2, "failed", built("lost", "lost", "lost", job="docs") + built("failure"))
         self.leave(3, "refused", built("success"))
         self.look(110.0)
-        self.assertEqual([self.left(it) for it in ("landed", "failed", "refused", "needs", "superseded", "withdrawn", "closed")],
-                         ["0", "2", "1", "0", "0", "0", "0"])
-        self.assertEqual([self.figure(f'gated_jobs_failed_total{{queue="core",job="{it}"}}') for it in ("unit", "docs", "lint")],
-                         ["2", "1", None])
+        verdicts = ("landed", "failed", "refused", "needs", "superseded", "withdrawn", "closed")
+        self.assertEqual([self.left(it) for it in verdicts], ["0", "2", "1", "0", "0", "0", "0"])
+        failed = [self.figure(f'gated_jobs_failed_total{{queue="core",job="{it}"}}') for it in ("unit", "docs", "lint")]
+        self.assertEqual(failed, ["2", "1", None])
 
     def test_builds_that_did_not_count(self) -> None:
         self.be(1)
@@ -119,7 +119,7 @@ class Leaving(Counting):
             said = real(path)
             return said.replace("core window 4", f"core window {window}") if path == "/status" and said else said
 
-        self.gate.text = text  # type: ignore[method-assign]
+        self.gate.text = text  # type: ignore[assignment]
         for window, shrinks in ((8, "0"), (4, "1"), (5, "1"), (3, "2"), (3, "2")):
             self.look(100.0)
             self.assertEqual(self.figure(name), shrinks)
@@ -134,7 +134,8 @@ class Leaving(Counting):
         self.look(310.0)
         self.assertEqual(self.left("landed"), "1")
         self.assertEqual([it for it in self.gate.asked if it.startswith(("/history/core", "/items/"))], [
-            "/history/core/1000000000000000", "/history/core/2000", "/history/core/2000", "/history/core/2000", "/items/2001"])
+            "/history/core/1000000000000000", "/history/core/2000", "/history/core/2000", "/history/core/2000",
+            "/items/2001"])
 
     def test_all_of_many_is_counted(self) -> None:
         self.look(100.0)
@@ -166,10 +167,12 @@ class Keeping(Counting):
         self.look(100.0)
         self.leave(1, "failed", built("failure"))
         real = self.gate.text
-        self.gate.text = lambda path: "no JSON" if path.startswith("/items/") else real(path)  # type: ignore[method-assign]
-        self.assertIn("watch: can't count what the gate did: no answer of the gate: GET /items/1: no JSON", self.look(110.0))
+        self.gate.text = (  # type: ignore[assignment]
+            lambda path: "no JSON" if path.startswith("/items/") else real(path))
+        self.assertIn("watch: can't count what the gate did: no answer of the gate: GET /items/1: no JSON",
+                      self.look(110.0))
         self.assertEqual((self.left("failed"), self.look(120.0)), ("1", ""))
-        self.gate.text = real  # type: ignore[method-assign]
+        self.gate.text = real  # type: ignore[assignment]
         self.start_again()
         self.look(130.0)
         self.assertEqual(self.figure('gated_jobs_failed_total{queue="core",job="unit"}'), "1")
@@ -205,7 +208,8 @@ class Running(WatchCase):
         super().setUp()
         self.page = self.file.parent.parent / "page"
         self.page.mkdir()
-        adapter = Adapter("gitea", "u", "w", "t", "s", "b", "127.0.0.1", 0, None, 300.0, 5.0, 60.0, None, page=self.page)
+        adapter = Adapter("gitea", "u", "w", "t", "s", "b", "127.0.0.1", 0, None, 300.0, 5.0, 60.0, None,
+                          page=self.page)
         self.settings = dataclasses.replace(self.settings, adapter=adapter)
         self.start_again()
 

@@ -128,7 +128,7 @@ class PythonGitLabTest(ClientCase):
 class EachByGh:
     """`gh api`, which takes whole addresses and so needs no TLS. Its token is of the host that GH_HOST names."""
     approve, object_to, page = "APPROVE", "REQUEST_CHANGES", "per_page"
-    dismiss = "PUT"
+    dismiss, events, pushed = "PUT", "events", ["head_ref_force_pushed"]
 
     def gh(self, path: str, *words: str, who: str = "gate") -> Any:
         """What it prints of an answer; none where that is empty."""
@@ -149,6 +149,7 @@ class EachByGh:
         self.assertEqual(self.gh(f"{self.forge.url}/users/ann", "--jq", ".id"), self.client.account_of("ann"))
         self.assertEqual([self.gh(f"collaborators/{it}/permission")["permission"] for it in ("ann", "cy")],
                          ["write", "read"])
+        self.assertEqual(self.gh(f"issues/1/{self.events}", "--jq", "map(.event // .type)"), self.pushed)
 
     def test_it_votes(self) -> None:
         self.gh("pulls/1/reviews", "-f", f"event={self.approve}", who="ben")
@@ -165,6 +166,8 @@ class EachByGh:
         other = self.gh("issues/1/comments", "-f", "body=Well", who="ben")["id"]
         for number, text in ((own, "tests"), (other, "/gate approve")):
             self.gh(f"issues/comments/{number}", "-X", "PATCH", "-f", f"body={text}")
+        self.assertEqual([self.gh(f"issues/comments/{it}", "--jq", ".user.id") for it in (own, other)],
+                         [self.client.api.account(), self.client.account_of("ben")])
         self.assertEqual(self.gh("issues/1/comments", "--jq", "map([.user.login, .body, .updated_at > .created_at])"),
                          [[GATE, "tests", True], ["ben", "/gate approve", True]])
         self.assertEqual((self.votes(), len(self.flaws())), ([], 1))
@@ -196,6 +199,7 @@ class GhTest(EachByGh, ClientCase):
 
 class GhAtGiteaTest(EachByGh, ClientCase):
     kind, approve, page, dismiss = "gitea", "APPROVED", "limit", "POST"
+    events, pushed = "timeline", ["pull_push"]
 
 
 if __name__ == "__main__":

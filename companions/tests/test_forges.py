@@ -181,7 +181,7 @@ class EachForm:
 
     def test_statuses(self) -> None:
         for state in (PENDING, SUCCESS, PENDING, FAILURE, FAILURE, PENDING):
-            self.client.set_status(LIB, ONE, state, "ä" * 300)
+            self.assertIs(self.client.set_status(LIB, ONE, state, "ä" * 300), True)
             status = self.model.status(LIB, ONE)
             self.assertEqual(status.state, state)
             self.assertTrue(status.text == UNDECIDED or set(status.text) == {"ä"})
@@ -348,7 +348,7 @@ class GitLabTest(EachForm, Case):
 
     def test_a_pending_status_is_set_once_and_never_untrue(self) -> None:
         for text in ("waits", "tests"):
-            self.client.set_status(LIB, ONE, PENDING, text)
+            self.assertIs(self.client.set_status(LIB, ONE, PENDING, text), True)
         self.assertEqual(self.model.statuses, [Status(LIB, ONE, "pending", UNDECIDED)])
         # It is true where there is no comment yet.
         self.assertTrue(UNDECIDED.startswith(unapproved(None).status))
@@ -357,7 +357,9 @@ class GitLabTest(EachForm, Case):
 
     def test_a_fork_has_no_status(self) -> None:
         self.model.open(LIB, TWO, "main", "From a fork", is_fork=True)
-        self.client.set_status(LIB, TWO, SUCCESS, "landed")
+        # So nobody was told of its commit.
+        for state in (PENDING, SUCCESS, FAILURE):
+            self.assertIs(self.client.set_status(LIB, TWO, state, "landed"), False)
         self.assertEqual(self.model.statuses, [])
 
     def test_groups_have_groups(self) -> None:

@@ -18,9 +18,9 @@ from companions.tests.standin import StandIn
 
 HEAD = "6dcb09b5b57875f334f61aebed695e2e4193db5e"
 OTHER = "ecdd80bb57125d7ba9641ffaa4d7d2c19d3f3091"
-USER = {"login": "octocat", "id": 1, "node_id": "MDQ6VXNlcjE=", "type": "User", "site_admin": False}
+USER: dict[str, Any] = {"login": "octocat", "id": 1, "node_id": "MDQ6VXNlcjE=", "type": "User", "site_admin": False}
 
-GITHUB_PULL = {
+GITHUB_PULL: dict[str, Any] = {
     "url": "https://api.github.com/repos/octocat/Hello-World/pulls/1347", "id": 1, "node_id": "MDExOlB1bGw=",
     "number": 1347, "state": "open", "locked": True, "active_lock_reason": "too heated", "title": "Amazing new feature",
     "user": USER, "body": "Please pull these awesome changes in!", "labels": [], "milestone": None, "draft": False,
@@ -29,7 +29,7 @@ GITHUB_PULL = {
     "base": {"label": "octocat:master", "ref": "master", "sha": OTHER, "user": USER, "repo": {"id": 1296269}},
     "author_association": "OWNER", "auto_merge": None, "merged": False, "mergeable": True, "rebaseable": True,
     "merged_by": None, "comments": 10, "review_comments": 0, "maintainer_can_modify": True, "commits": 3}
-GITHUB_REVIEWS = [
+GITHUB_REVIEWS: list[dict[str, Any]] = [
     {"id": 80, "user": USER, "body": "Here is the body.", "state": "APPROVED", "commit_id": HEAD,
      "submitted_at": "2019-11-17T17:43:43Z", "author_association": "COLLABORATOR"},
     {"id": 81, "user": None, "body": "", "state": "APPROVED", "commit_id": HEAD,
@@ -39,21 +39,24 @@ GITHUB_REVIEWS = [
     {"id": 83, "user": {**USER, "login": "monalisa"}, "body": "", "state": "COMMENTED", "commit_id": HEAD,
      "submitted_at": "2019-11-17T17:46:00Z"},
     {"id": 84, "user": USER, "body": "", "state": "PENDING", "commit_id": HEAD}]
-GITHUB_COMMENTS = [{"id": 1, "user": {**USER, "login": "hubot"}, "body": "/gate approve\r\n", "created_at":
-                    "2019-11-17T17:43:00Z", "updated_at": "2019-11-17T17:43:00Z", "author_association": "COLLABORATOR"}]
-GITHUB_EVENTS = [
+GITHUB_COMMENTS: list[dict[str, Any]] = [
+    {"id": 1, "user": {**USER, "login": "hubot"}, "body": "/gate approve\r\n", "created_at":
+     "2019-11-17T17:43:00Z", "updated_at": "2019-11-17T17:43:00Z", "author_association": "COLLABORATOR"}]
+GITHUB_EVENTS: list[dict[str, Any]] = [
     {"id": 11, "event": "base_ref_changed", "actor": USER, "commit_id": None, "created_at": "2019-11-17T17:40:00Z"},
-    {"id": 13, "event": "head_ref_force_pushed", "actor": USER, "commit_id": None, "created_at": "2019-11-17T17:41:00Z"},
+    {"id": 13, "event": "head_ref_force_pushed", "actor": USER, "commit_id": None,
+     "created_at": "2019-11-17T17:41:00Z"},
     {"id": 12, "event": "labeled", "actor": USER, "commit_id": None, "created_at": "2019-11-17T17:50:00Z"}]
-GITHUB_COMMENT_HOOK = {
+GITHUB_COMMENT_HOOK: dict[str, Any] = {
     "action": "created", "comment": GITHUB_COMMENTS[0], "sender": USER,
     "issue": {"id": 444500041, "number": 1, "title": "Spelling", "state": "open",
               "pull_request": {"url": "https://api.github.com/repos/Codertocat/Hello-World/pulls/1"}},
     "repository": {"id": 186853002, "name": "Hello-World", "full_name": "Codertocat/Hello-World", "private": False}}
-GITHUB_PING = {"zen": "Keep it logically awesome.", "hook_id": 30, "hook": {"type": "Repository", "id": 30},
-               "repository": {"id": 186853002, "full_name": "Codertocat/Hello-World"}, "sender": USER}
+GITHUB_PING: dict[str, Any] = {
+    "zen": "Keep it logically awesome.", "hook_id": 30, "hook": {"type": "Repository", "id": 30},
+    "repository": {"id": 186853002, "full_name": "Codertocat/Hello-World"}, "sender": USER}
 
-GITEA_PULL = {
+GITEA_PULL: dict[str, Any] = {
     "id": 21, "url": "https://gitea.example/acme/lib/pulls/7", "number": 7, "user": {"id": 2, "login": "ann"},
     "title": "Add one", "body": "", "labels": [], "state": "closed", "is_locked": False, "draft": False, "comments": 1,
     "html_url": "https://gitea.example/acme/lib/pulls/7", "mergeable": False, "merged": True, "merged_at":
@@ -63,37 +66,42 @@ GITEA_PULL = {
 GITEA_REVIEWS: list[dict[str, Any]] = [
     {"id": 5, "user": None, "team": {"id": 1, "name": "core"}, "state": "REQUEST_REVIEW", "body": "", "commit_id": "",
      "stale": False, "official": False, "dismissed": False, "submitted_at": "2024-05-01T11:50:00+02:00"},
-    {"id": 6, "user": {"id": 2, "login": "ann"}, "team": None, "state": "REQUEST_CHANGES", "body": "No", "commit_id": OTHER,
-     "stale": True, "official": True, "dismissed": False, "submitted_at": "2024-05-01T11:51:00+02:00"},
+    {"id": 6, "user": {"id": 2, "login": "ann"}, "team": None, "state": "REQUEST_CHANGES", "body": "No",
+     "commit_id": OTHER, "stale": True, "official": True, "dismissed": False,
+     "submitted_at": "2024-05-01T11:51:00+02:00"},
     {"id": 7, "user": {"id": 3, "login": "ben"}, "team": None, "state": "APPROVED", "body": "", "commit_id": HEAD,
      "stale": False, "official": True, "dismissed": True, "submitted_at": "2024-05-01T11:52:00+02:00"},
     {"id": 8, "user": {"id": 4, "login": "cy"}, "team": None, "state": "APPROVED", "body": "", "commit_id": HEAD,
      "stale": False, "official": False, "dismissed": False, "submitted_at": "2024-05-01T11:53:00+02:00"},
     {"id": 9, "user": {"id": 4, "login": "cy"}, "team": None, "state": "COMMENT", "body": "Well", "commit_id": HEAD,
      "stale": False, "official": False, "dismissed": False, "submitted_at": "2024-05-01T11:54:00+02:00"}]
-GITEA_COMMENTS = [{"id": 8, "user": {"id": 3, "login": "ben"}, "body": "/gate approve", "created_at": "2024-05-01T09:55:00Z",
-                   "updated_at": "2024-05-01T09:55:00Z", "assets": []}]
-GITEA_TIMELINE = [{"id": 20, "type": "change_target_branch", "old_ref": "a", "new_ref": "main", "body": "",
-                   "user": {"id": 2, "login": "ann"}, "created_at": "2024-05-01T11:30:00+02:00"}]
-GITEA_REVIEW_HOOK = {"action": "reviewed", "number": 7, "pull_request": GITEA_PULL, "requested_reviewer": None,
-                     "repository": {"id": 4, "full_name": "acme/lib"}, "sender": {"id": 2, "login": "ann"},
-                     "commit_id": "", "review": {"type": "pull_request_review_approved", "content": ""}}
+GITEA_COMMENTS: list[dict[str, Any]] = [
+    {"id": 8, "user": {"id": 3, "login": "ben"}, "body": "/gate approve",
+     "created_at": "2024-05-01T09:55:00Z", "updated_at": "2024-05-01T09:55:00Z", "assets": []}]
+GITEA_TIMELINE: list[dict[str, Any]] = [
+    {"id": 20, "type": "change_target_branch", "old_ref": "a", "new_ref": "main", "body": "",
+     "user": {"id": 2, "login": "ann"}, "created_at": "2024-05-01T11:30:00+02:00"}]
+GITEA_REVIEW_HOOK: dict[str, Any] = {
+    "action": "reviewed", "number": 7, "pull_request": GITEA_PULL, "requested_reviewer": None,
+    "repository": {"id": 4, "full_name": "acme/lib"}, "sender": {"id": 2, "login": "ann"},
+    "commit_id": "", "review": {"type": "pull_request_review_approved", "content": ""}}
 
-GITLAB_REQUEST = {
+GITLAB_REQUEST: dict[str, Any] = {
     "id": 155016530, "iid": 133, "project_id": 15513260, "title": "Manual job rules", "description": None,
     "state": "opened", "created_at": "2022-05-13T07:26:38.402Z", "merged_by": None, "merged_at": None, "target_branch":
     "master", "source_branch": "manual-job-rules", "author": {"id": 4155490, "username": "marcel.amirault"}, "draft":
     False, "merge_status": "can_be_merged", "detailed_merge_status": "mergeable", "sha": HEAD, "merge_commit_sha": None,
     "reference": "!133", "web_url": "https://gitlab.com/marcel.amirault/test-project/-/merge_requests/133"}
-GITLAB_APPROVALS = {"id": 5, "iid": 133, "project_id": 1, "state": "opened", "approvals_required": 2,
-                    "approvals_left": 1, "approved_by": [{"user": {"username": "root", "id": 1}}]}
-GITLAB_VERSIONS = [
+GITLAB_APPROVALS: dict[str, Any] = {
+    "id": 5, "iid": 133, "project_id": 1, "state": "opened", "approvals_required": 2,
+    "approvals_left": 1, "approved_by": [{"user": {"username": "root", "id": 1}}]}
+GITLAB_VERSIONS: list[dict[str, Any]] = [
     {"id": 110, "head_commit_sha": HEAD, "base_commit_sha": OTHER, "start_commit_sha": OTHER, "created_at":
      "2016-07-26T14:44:48.926Z", "merge_request_id": 105, "state": "collected", "real_size": "1"},
     {"id": 108, "head_commit_sha": OTHER, "base_commit_sha": OTHER, "start_commit_sha": OTHER, "created_at":
      "2016-07-25T14:21:33.028Z", "merge_request_id": 105, "state": "collected", "real_size": "1"}]
 ROOT, PIPIN = {"id": 1, "username": "root", "name": "Administrator"}, {"id": 2, "username": "pipin", "name": "Pip"}
-GITLAB_NOTES = [
+GITLAB_NOTES: list[dict[str, Any]] = [
     {"id": 301, "body": "added 1 commit\n\n<ul><li>...</li></ul>", "author": PIPIN, "system": True,
      "created_at": "2016-07-26T14:44:49.000Z", "noteable_type": "MergeRequest"},
     {"id": 302, "body": "/gate approve", "author": PIPIN, "system": False, "created_at": "2016-07-26T14:44:00.000Z",
@@ -102,12 +110,12 @@ GITLAB_NOTES = [
      "created_at": "2016-07-26T14:50:00.000Z"},
     {"id": 304, "body": "approved this merge request", "author": PIPIN, "system": True,
      "created_at": "2016-07-26T14:51:00.000Z"}]
-GITLAB_HOOK = {
+GITLAB_HOOK: dict[str, Any] = {
     "object_kind": "merge_request", "event_type": "merge_request", "user": ROOT,
     "project": {"id": 1, "name": "Gitlab Test", "path_with_namespace": "gitlabhq/gitlab-test"},
     "object_attributes": {"id": 99, "iid": 1, "target_branch": "master", "source_branch": "ms-viewport",
                           "action": "open", "state": "opened", "title": "MS-Viewport", "last_commit": {"id": HEAD}}}
-GITLAB_NOTE_HOOK = {
+GITLAB_NOTE_HOOK: dict[str, Any] = {
     "object_kind": "note", "event_type": "note", "user": ROOT, "project": GITLAB_HOOK["project"],
     "object_attributes": {"id": 1244, "note": "This MR needs work.", "noteable_type": "MergeRequest", "system": False},
     "merge_request": {"id": 7, "iid": 2, "target_branch": "markdown", "state": "opened"}}
@@ -209,11 +217,10 @@ class GiteaTest(DocumentedCase):
         form = Gitea(self.serve(one=GITEA_PULL, reviews=GITEA_REVIEWS, comments=GITEA_COMMENTS,
                                 timeline=GITEA_TIMELINE), "token", "secret")
         self.assertEqual(form.request(Place("acme/lib", 7)), Request(
-            "acme/lib", 7, State.MERGED, HEAD, "main", "Add one", "", (Vote("review 6", "ann", False, OTHER),
-                                                                      Vote("review 7", "ben", None, HEAD),
-                                                                      Vote("review 8", "cy", True, HEAD),
-                                                                      said_at(Vote("comment 8", "ben", True, None),
-                                                                              "2024-05-01T09:55:00+00:00"))))
+            "acme/lib", 7, State.MERGED, HEAD, "main", "Add one", "", (
+                Vote("review 6", "ann", False, OTHER), Vote("review 7", "ben", None, HEAD),
+                Vote("review 8", "cy", True, HEAD),
+                said_at(Vote("comment 8", "ben", True, None), "2024-05-01T09:55:00+00:00"))))
 
     def test_hooks(self) -> None:
         form, body = Gitea("https://gitea.example/api/v1", "token", "secret"), json.dumps(GITEA_REVIEW_HOOK).encode()
@@ -254,9 +261,11 @@ class GitLabTest(DocumentedCase):
 
     def test_what_isnt_one(self) -> None:
         """A merge request that was just opened has no head yet."""
-        for wrong in ({"one": {**GITLAB_REQUEST, "sha": None}}, {"one": {**GITLAB_REQUEST, "state": "asleep"}},
-                      {"approvals": None}, {"approvals": []}, {"notes": None}, {"notes": {"message": "sorry"}},
-                      {"versions": [{"id": 1, "created_at": "2016-07-26T14:44:48.926Z"}]}, {"versions": None}):
+        cases: list[dict[str, Any]] = [
+            {"one": {**GITLAB_REQUEST, "sha": None}}, {"one": {**GITLAB_REQUEST, "state": "asleep"}},
+            {"approvals": None}, {"approvals": []}, {"notes": None}, {"notes": {"message": "sorry"}},
+            {"versions": [{"id": 1, "created_at": "2016-07-26T14:44:48.926Z"}]}, {"versions": None}]
+        for wrong in cases:
             with self.subTest(wrong=wrong), self.assertRaises(ForgeFault):
                 self.form(**wrong).request(Place("a/b", 133))
 
@@ -266,7 +275,8 @@ class GitLabTest(DocumentedCase):
                        (GITLAB_NOTE_HOOK, Place("gitlabhq/gitlab-test", 2))]
         for said, place in [*of_requests, *((it, None) for it in GITLAB_OTHERS)]:
             self.assertEqual(form.place_of(signed, json.dumps(said).encode()), place, said)
-        for headers in ({}, {"X-Gitlab-Token": "secret "}, {"X-Gitlab-Token": "\u017fecret"}):
+        others: list[dict[str, str]] = [{}, {"X-Gitlab-Token": "secret "}, {"X-Gitlab-Token": "\u017fecret"}]
+        for headers in others:
             with self.assertRaises(PermissionError):
                 form.place_of(headers, json.dumps(GITLAB_HOOK).encode())
 

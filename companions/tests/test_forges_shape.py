@@ -15,7 +15,7 @@ from unittest import mock
 
 from companions.adapter import LAG
 from companions.api import KINDS
-from companions.forges import PENDING, SUCCESS, Place
+from companions.forges import PENDING, SUCCESS
 from companions.tests import adapter_case
 from companions.tests.forges import StandInForge
 from companions.tests.forges.case import LIB, ONE, TWO, Case
@@ -171,6 +171,14 @@ class EachShape:
         mark = len(self.ask("POST", self.talk, {"body": "x" * most}).said["body"])
         self.assertEqual(mark, most)
         self.assertIn(self.ask("POST", self.talk, {"body": "x" * (most + 1)}).status, (400, 422))
+        of_commit = self.path(f"/projects/acme%2Flib/statuses/{ONE}", f"/repos/{LIB}/statuses/{ONE}")
+        form, status = self.forge.form, {"state": "success", "context": "gate"}
+        cases: list[tuple[str, str, dict[str, str], str, int]] = [
+            ("POST", of_commit, status, "description", form.description_limit),
+            (self.path("PUT", "PATCH"), self.pull, {}, "title", form.title_limit)]
+        for method, where, said, name, limit in cases:
+            heard = [self.ask(method, where, {**said, name: "x" * it}).status for it in (limit, limit + 1)]
+            self.assertEqual([it // 100 for it in heard], [2, 4], name)
         self.fails(400 if self.kind == "gitlab" else 422, self.client.comment, self.place, None, "x" * most)
 
     def test_headers_say_how_many_calls_are_left(self) -> None:
@@ -250,7 +258,8 @@ class LaggingTest(adapter_case.Case):
 
     def start(self) -> None:
         self.there = self.enterContext(StandInForge("gitea"))
-        self.forge, self.model = self.there.client(), self.there.model
+        self.forge = self.there.client()  # type: ignore[assignment]
+        self.model = self.there.model
         self.model.add(LIB, "ada", "bob")
         super().start()
 

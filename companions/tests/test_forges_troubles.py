@@ -1,5 +1,5 @@
 """A forge of each form in trouble: with long texts, or it fails, refuses, wants a pause, moves what it has, is slow or
-away; and one where nothing has changed."""
+away."""
 from __future__ import annotations
 
 import contextlib
@@ -7,11 +7,12 @@ import io
 import re
 import time
 import unittest
+from collections.abc import Iterator
 from datetime import timedelta
 from unittest import mock
 
-from companions.api import KINDS, PAGE, Content, KeptAnswers
-from companions.forges import SUCCESS, Place
+from companions.api import KINDS, PAGE, Unread
+from companions.forges import SUCCESS, Forge, Opinion, Place
 from companions.github import UNREVIEWED
 from companions.gitlab import UNLISTED, UNSURE
 from companions.tests.forges import StandInForge
@@ -20,6 +21,8 @@ from companions.tests.forges.model import Status
 
 
 class EachFormInTrouble:
+    client: Forge
+
     def test_long_comments_of_others_hide_no_vote(self) -> None:
         self.model.approve(self.place, "ann")
         self.model.comment(self.place, "ben", "/gate approve")
@@ -40,6 +43,23 @@ class EachFormInTrouble:
         self.assertEqual(self.votes(), both if self.kind == "github" else both[:1])
         self.assertEqual(self.flaws(), [("ben", UNSURE)] if self.kind == "gitlab" else [])
 
+    def test_a_look_asks_for_a_hundred_smaller_pages_in_all(self) -> None:
+        """And comments use up none that reviews need."""
+        for _ in range(20):
+            self.model.review(self.place, "mallory", "x" * 9000)
+        self.model.approve(self.place, "ann")
+        for _ in range(120):
+            self.model.comment(self.place, "mallory", "x" * 9000)
+        self.enterContext(mock.patch("companions.api.LARGEST", 40_000))
+        self.forge.server.asked.clear()
+        so = self.asked()
+        sizes = [int(it[1]) for it in (re.search(r"(?:per_page|limit)=(\d+)", target)
+                                       for _, target in self.forge.server.asked) if it]
+        self.assertEqual(sum(it < PAGE for it in sizes), 100)
+        # What was done is read too, but where it has all comments in it.
+        self.assertEqual((so.is_cut, [(it.person, it.flaw, it.is_unplaced) for it in so.votes]),
+                         (True, [("ann", None, self.kind != "github")]))
+
     def test_a_comment_that_is_too_long_itself_is_left_out(self) -> None:
         self.model.approve(self.place, "ann")
         self.model.comment(self.place, "mallory", "x" * 50_000)
@@ -55,10 +75,24 @@ class EachFormInTrouble:
             self.model.open(LIB, TWO, "main", "One more", "x" * 9000)
         self.enterContext(mock.patch("companions.api.LARGEST", 40_000))
         self.assertEqual(sorted(self.client.open_requests(LIB)), list(range(1, 62)))
-        for _ in range(60):
+
+    def test_so_many_long_texts_of_requests_hide_some_and_stop_nothing(self) -> None:
+        """Anybody may open a request. Those that the gate was told of are asked for one by one."""
+        for _ in range(120):
             self.model.open(LIB, TWO, "main", "One more", "x" * 9000)
-        fault = self.fails(None, lambda: list(self.client.open_requests(LIB)))
-        self.assertIn("not asked, since 100 smaller pages were asked for by then", str(fault))
+        with mock.patch("companions.api.LARGEST", 40_000), mock.patch("companions.api.say") as said:
+            for _ in range(2):
+                self.forge.server.asked.clear()
+                listed = len(self.client.open_requests(LIB))
+                self.assertTrue(0 < listed < 121, listed)
+                self.assertLess(len(self.forge.server.asked), 110)
+        said.assert_called_once()
+        self.assertIn(f"{LIB}: its open requests are too many, or their texts too long", said.call_args.args[1])
+        self.assertEqual(sorted(self.client.open_requests(LIB)), list(range(1, 122)))
+        self.model.open(LIB, TWO, "main", "One more", "x" * 9000)
+        with mock.patch("companions.api.LARGEST", 40_000), mock.patch("companions.api.say") as said:
+            self.client.open_requests(LIB)
+        said.assert_called_once()
 
     def vote_around(self, short: int) -> None:
         """An approval, so many short texts, some that are too long together, an objection and a comment."""
@@ -92,8 +126,9 @@ class EachFormInTrouble:
             self.assertEqual(self.flaws(), [(it, UNREVIEWED) for it in ("ann", "cy")])
         for size in (*[9000] * 6, *[10] * 7):
             self.model.open(LIB, TWO, "main", "One more", "x" * size)
-        fault = self.fails(None, lambda: list(self.client.open_requests(LIB)))
-        self.assertIn("some pages are too large, and smaller ones can't be told from others", str(fault))
+        with mock.patch("companions.api.say") as said:
+            self.assertLess(len(self.client.open_requests(LIB)), 14)
+        said.assert_called_once()
 
     def test_a_forge_in_trouble_says_nothing(self) -> None:
         server = self.forge.server
@@ -167,15 +202,26 @@ class EachFormInTrouble:
         server.asked.clear()
         self.fails(403, self.client.set_status, LIB, ONE, SUCCESS, "landed")
         self.assertEqual(server.asked, [])
+        for pause in (60, 120, 240, 480, 960, 1920, 3600, 3600):
+            [(until, _)] = api.refusals.of_name.values()
+            self.assertAlmostEqual(until - time.monotonic(), pause, delta=5)
+            api.refusals.end_all()
+            server.plan = ["forbid"]
+            self.fails(403, self.client.set_status, LIB, ONE, SUCCESS, "landed")
         api.refusals.end_all()
         self.client.set_status(LIB, ONE, SUCCESS, "landed")
+        self.assertEqual(api.refusals.of_name, {})
 
     def test_a_clock_that_is_set_stops_nothing(self) -> None:
-        self.forge.server.plan = ["fail"]
-        ahead = time.time() + 3 * 86400
-        with mock.patch("companions.api.time.time", lambda: ahead):
-            self.fails(500, self.client.request, self.place)
-        self.assertEqual(self.asked().number, self.place.number)
+        """It was three days ahead while the forge failed, or refused, with a pause of a minute or without."""
+        server, ahead = self.forge.server, time.time() + 3 * 86400
+        for trouble, status, limits in (("fail", 500, {}), ("limit", 429, {"Retry-After": "60"}), ("limit", 429, {})):
+            self.client, server.plan, server.limits = self.forge.client(), [trouble], limits
+            with mock.patch("companions.api.time.time", lambda: ahead):
+                self.fails(status, self.client.request, self.place)
+            minute = time.monotonic() + 61
+            with mock.patch("companions.api.time.monotonic", lambda at=minute: at):
+                self.assertEqual(self.asked().number, self.place.number)
 
     def test_a_repository_that_has_another_name_now_is_followed(self) -> None:
         server, told = self.forge.server, io.StringIO()
@@ -207,42 +253,6 @@ class EachFormInTrouble:
         self.fails(None, client.request, self.place)
 
 
-class UnchangedTest(Case):
-    """GitHub sends nothing again that hasn't changed."""
-
-    def test_what_has_not_changed_is_not_sent_again(self) -> None:
-        self.model.approve(self.place, "ann")
-        first, server = self.asked(), self.forge.server
-        self.assertEqual((self.asked(), server.unchanged, len(server.asked)), (first, 4, 8))
-        self.model.approve(self.place, "ben")
-        # The request itself has another `updated_at` then.
-        self.assertEqual(([it.person for it in self.asked().votes], server.unchanged), (["ann", "ben"], 6))
-
-    def test_a_list_that_grows_by_a_page(self) -> None:
-        for number in range(PAGE + 5):
-            self.assertEqual(len(list(self.client.open_requests(LIB))), number + 1)
-            self.model.open(LIB, TWO, "main", "One more")
-
-    def test_a_full_page_is_not_kept(self) -> None:
-        """Its tag may stay the same when the next page comes to be."""
-        for _ in range(PAGE - 1):
-            self.model.comment(self.place, "ann", "Well")
-        self.asked()
-        self.model.comment(self.place, "ann", "/gate approve")
-        where = f"/repos/{LIB}/issues/1/comments?per_page={PAGE}&page=1"
-        self.assertIn(where, self.client.api.kept.of_path)
-        self.asked()
-        self.assertEqual([it for it in self.client.api.kept.of_path if "comments" in it], [])
-
-    def test_the_oldest_are_dropped(self) -> None:
-        kept = KeptAnswers(most=10)
-        for path, size, tag in (("a", 4, "x"), ("b", 4, "x"), ("c", 9, ""), ("a", 5, "y"), ("d", 4, "x")):
-            kept.keep(path, Content(b"." * size, "", tag))
-        self.assertEqual((list(kept.of_path), kept.size), (["a", "d"], 9))
-        kept.keep("a", Content(b"", "", ""))
-        self.assertEqual((list(kept.of_path), kept.size), (["d"], 4))
-
-
 class GitHubInTroubleTest(EachFormInTrouble, Case):
     kind = "github"
 
@@ -270,6 +280,45 @@ class GitHubInTroubleTest(EachFormInTrouble, Case):
         self.assertEqual(self.votes(), [("ann", True, ONE)])
         with mock.patch("companions.rests.HOUR", 0.0):
             self.assertEqual([it[0] for it in self.votes()], ["ann", "ben"])
+
+    def test_long_reviews_use_up_no_more_than_their_part_either(self) -> None:
+        """And none of what comments have. Where it is used up, a review may be against each request that has long ones.
+        """
+        self.enterContext(mock.patch("companions.api.LARGEST", 40_000))
+        self.client.api.most_smaller = 60
+        other = self.model.open(LIB, TWO, "main", "One more")
+        for place in (self.place, other):
+            self.model.approve(place, "ann")
+        self.forge.server.asked.clear()
+        found = []
+        for _ in range(15):
+            for _ in range(5):
+                self.model.review(self.place, "mallory", "x" * 9000)
+            found.append([(it.person, it.flaw) for it in self.asked().votes])
+        sizes = [int(it[1]) for it in (re.search(r"per_page=(\d+)", target)
+                                       for _, target in self.forge.server.asked) if it]
+        self.assertEqual(sum(it < PAGE for it in sizes), 60)
+        self.assertEqual((found[0], found[-1]), ([("ann", None)], []))
+        for _ in range(55):
+            self.model.comment(other, "mallory", "x" * 9000)
+        self.model.comment(other, "ben", "/gate approve")
+        so = self.client.request(other)
+        self.assertEqual(so and [(it.person, it.flaw) for it in so.votes], [("ann", None)])
+        self.assertGreater(sum("per_page=1&" in target for _, target in self.forge.server.asked), 60 - 10)
+
+    def test_an_objection_that_comes_while_long_comments_are_read_is_seen(self) -> None:
+        self.model.approve(self.place, "ann")
+        for _ in range(60):
+            self.model.comment(self.place, "mallory", "x" * 9000)
+        self.enterContext(mock.patch("companions.api.LARGEST", 40_000))
+        comments = self.client.comments
+
+        def read(place: Place, unread: Unread) -> Iterator[Opinion]:
+            yield from comments(place, unread)
+            self.model.reject(self.place, "ben")
+
+        self.enterContext(mock.patch.object(self.client, "comments", read))
+        self.assertEqual([it[:2] for it in self.votes()], [("ann", True), ("ben", False)])
 
 
 class GiteaInTroubleTest(EachFormInTrouble, Case):

@@ -6,7 +6,7 @@ import unittest
 from unittest import mock
 
 from companions.api import ForgeFault, Full
-from companions.forges import SUCCESS, Limits, Owned, Place
+from companions.forges import SUCCESS, Forge, Limits, Owned, Place
 from companions.requests import State
 from companions.tests.forges.case import LIB, ONE, TWO, Case
 from companions.tests.forges.hooks import Hook
@@ -17,6 +17,8 @@ FULL = ('{"message":"Validation Failed","errors":[{"resource":"Status","code":"c
 
 
 class EachFormWrites:
+    client: Forge
+
     def place_of(self, hook: Hook) -> Place | None:
         return self.client.place_of(hook.headers, hook.body)
 

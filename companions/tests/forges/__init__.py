@@ -12,8 +12,7 @@ repository (`forge.client().head_ref`).
 from __future__ import annotations
 
 from companions.forges import Forge
-from companions.github import Gitea, GitHub
-from companions.gitlab import GitLab
+from companions.forms import CLIENTS
 from companions.tests.forges.gitea import GiteaForm
 from companions.tests.forges.github import GitHubForm
 from companions.tests.forges.gitlab import GitLabForm
@@ -22,7 +21,6 @@ from companions.tests.forges.model import Model, Webhook
 from companions.tests.forges.server import Server
 
 FORMS = {"github": GitHubForm, "gitea": GiteaForm, "gitlab": GitLabForm}
-CLIENTS = {"github": GitHub, "gitea": Gitea, "gitlab": GitLab}
 
 
 class StandInForge:

@@ -40,7 +40,8 @@ class GiteaForm(GitHubForm):
     def routes(self) -> list[Route]:
         undismiss = REPOSITORY + r"/pulls/(\d+)/reviews/(\d+)/dismissals"
         return [("POST", undismiss, self.dismiss),
-                *(it for it in super().routes() if not (it[0] == "PUT" and it[1] == undismiss))]
+                *(it for it in super().routes() if not (it[0] == "PUT" and it[1] == undismiss)
+                  and not it[1].endswith("/check-runs"))]
 
     def time(self, at: datetime) -> str:
         return at.astimezone(self.zone).replace(microsecond=0).isoformat()

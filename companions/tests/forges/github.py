@@ -9,7 +9,7 @@ from companions.forges import Place
 from companions.tests.forges.form import Question, Reply, Route
 from companions.tests.forges.github_shown import REVIEWS, GitHubShown, signature
 from companions.tests.forges.model import Entry, Pull, Status
-from companions.tests.forges.ran_shown import GitHubRuns
+from companions.tests.forges.ran_shown import GitHubChecks, GitHubRuns
 
 __all__ = ["GitHubForm", "signature"]
 
@@ -37,7 +37,7 @@ class GitHubForm(GitHubShown):
 
     def place_of(self, path: str) -> tuple[str, str, str] | None:
         found = BY_NUMBER.fullmatch(path) or BY_NAME.fullmatch(path)
-        return found and ("", urllib.parse.unquote(found[1]), found[2])
+        return ("", urllib.parse.unquote(found[1]), found[2]) if found is not None else None
 
     def path_of(self, repository: str, rest: str) -> str:
         return f"/repos/{urllib.parse.quote(repository)}{rest}"
@@ -72,7 +72,8 @@ class GitHubForm(GitHubShown):
                 ("GET", REPOSITORY + "/commits/([0-9a-f]+)/statuses", self.statuses),
                 ("GET", REPOSITORY + "/statuses/([0-9a-f]+)", self.statuses),
                 ("GET", hooks, self.hooks), ("POST", hooks, self.add_hook),
-                ("DELETE", hooks + r"/(\d+)", self.delete_hook), *GitHubRuns(self, REPOSITORY).routes()]
+                ("DELETE", hooks + r"/(\d+)", self.delete_hook), *GitHubRuns(self, REPOSITORY).routes(),
+                *GitHubChecks(self, REPOSITORY).routes()]
 
     def repository(self, question: Question) -> str:
         return "/".join(question.parts[:2])

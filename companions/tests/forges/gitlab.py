@@ -31,7 +31,7 @@ class GitLabForm(GitLabShown):
 
     def place_of(self, path: str) -> tuple[str, str, str] | None:
         found = NAMED.fullmatch(path)
-        return found and ("", urllib.parse.unquote(found[1]), found[2])
+        return ("", urllib.parse.unquote(found[1]), found[2]) if found is not None else None
 
     def path_of(self, repository: str, rest: str) -> str:
         return f"/projects/{urllib.parse.quote(repository, safe='')}{rest}"
@@ -161,7 +161,7 @@ class GitLabForm(GitLabShown):
         """Who is asked for is looked for in parts of names."""
         writers = self.model.writers.get(question.parts[0], set())
         named = [*sorted(writers), "guest-of-ann", "cy"]
-        rows = [{**self.user(it), "access_level": 30 if it in writers else 10} for it in named]
+        rows: list[dict[str, Any]] = [{**self.user(it), "access_level": 30 if it in writers else 10} for it in named]
         return self.listed([it for it in rows if question.query.get("query", "") in it["username"]], question)
 
     def persons(self, question: Question) -> Reply:

@@ -83,7 +83,7 @@ class GitLabShown(Form):
 
     def hook(self, what: str, pull: Pull, entry: Entry | None) -> Hook | None:
         said: dict[str, Any] = {"user": self.user(pull.author), "project": self.project(pull.place.repository)}
-        attributes = {**self.request(pull), "last_commit": {"id": pull.head}}
+        attributes: dict[str, Any] = {**self.request(pull), "last_commit": {"id": pull.head}}
         if what in ("commented", "comment edited") and entry:
             action = "create" if what == "commented" else "update"
             note = {"id": entry.note, "note": entry.text, "noteable_type": "MergeRequest", "action": action,

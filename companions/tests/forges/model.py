@@ -8,9 +8,10 @@ from collections import defaultdict
 from collections.abc import Callable
 from dataclasses import dataclass, field, replace
 from datetime import datetime, timedelta, timezone
+from typing import Any
 
 from companions.forges import Place
-from companions.tests.forges.ran import CiRun
+from companions.tests.forges.ran import CheckRun, CiRun
 
 BEGIN = datetime(2024, 5, 1, 10, 0, 0, 250000, tzinfo=timezone.utc)
 # Whose token the adapter has. It may write to each repository.
@@ -103,8 +104,10 @@ class Model:
         self.pulls: dict[Place, Pull] = {}
         self.writers: dict[str, set[str]] = {}
         self.statuses: list[Status] = []
-        # What a CI has run, and the commits that were pushed as branches, each with its repository.
+        # What a CI has run, by itself or as an App, and the commits that were pushed as branches, each with its
+        # repository.
         self.ran: list[CiRun] = []
+        self.checks: list[CheckRun] = []
         self.pushed: set[tuple[str, str]] = set()
         # Deletes a branch of a repository, and says whether it was there.
         self.when_deleted: Callable[[str, str], bool] = lambda repository, branch: False
@@ -123,7 +126,8 @@ class Model:
         """What is so now, for whoever looks at it later. Nothing can be done to it."""
         it = copy.copy(self)
         with self.lock:
-            for name in ("pulls", "writers", "statuses", "ran", "pushed", "accounts", "repositories", "former", "webhooks"):
+            for name in ("pulls", "writers", "statuses", "ran", "checks", "pushed", "accounts", "repositories",
+                         "former", "webhooks"):
                 setattr(it, name, copy.deepcopy(getattr(self, name)))
         return it
 
@@ -151,9 +155,10 @@ class Model:
     def rename(self, repository: str, name: str) -> None:
         """A repository gets another name, and keeps its number."""
         with self.lock:
-            for held in (self.writers, self.repositories, self.counts):
+            tables: list[dict[str, Any]] = [self.writers, self.repositories, self.counts]
+            for held in tables:
                 if repository in held:
-                    held[name] = held.pop(repository)  # type: ignore[attr-defined]
+                    held[name] = held.pop(repository)
             self.former[repository] = name
             for place in [it for it in self.pulls if it.repository == repository]:
                 pull = self.pulls.pop(place)
@@ -165,7 +170,7 @@ class Model:
     def name_of(self, repository: str) -> str:
         """The name that a repository has now, by one that it had, or by its number."""
         named = [name for name, number in self.repositories.items() if str(number) == repository]
-        return self.former.get(repository, *named or [repository])
+        return self.former.get(repository, named[0] if named else repository)
 
     def may_write(self, repository: str, person: str) -> bool:
         return person == GATE or person in self.writers.get(repository, ())
@@ -289,6 +294,14 @@ class Model:
         with self.lock:
             self.statuses.append(replace(status, at=self.tick(), number=next(self.counts["status"])))
 
+    def check(self, repository: str, commit: str, app: int, name: str, word: str, link: str | None = None,
+              slug: str = "some-ci", text: str = "") -> CheckRun:
+        """An App makes a check run."""
+        with self.lock:
+            number = next(self.counts["check"])
+            self.checks.append(CheckRun(number, repository, commit, app, name, word, link, slug, text))
+            return self.checks[-1]
+
     def statuses_of(self, repository: str, commit: str) -> list[Status]:
         """The statuses of a commit, the last one first."""
         return [it for it in reversed(self.statuses) if (it.repository, it.commit) == (repository, commit)]
@@ -319,7 +332,8 @@ class Model:
 
     def has(self, repository: str, commit: str) -> bool:
         """Whether a commit is or was the head of one of the repository's requests, or of a branch."""
-        return (repository, commit) in self.pushed or any(it.commit == commit for pull in self.of(repository) for it in pull.of("pushed"))
+        return (repository, commit) in self.pushed or any(
+            it.commit == commit for pull in self.of(repository) for it in pull.of("pushed"))
 
     def of(self, repository: str) -> list[Pull]:
         with self.lock:

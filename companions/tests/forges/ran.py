@@ -1,4 +1,5 @@
-"""What a CI has run at a stand-in forge: workflow runs of GitHub and Gitea, pipelines of GitLab, with their jobs.
+"""What a CI has run at a stand-in forge: workflow runs of GitHub and Gitea, pipelines of GitLab, with their jobs, and
+check runs of GitHub's Apps.
 
 Their forms are from the forges' documentation.
 """
@@ -48,3 +49,18 @@ class CiRun:
         for it in self.jobs:
             it.word = it.word if it.word in COMPLETED else "cancelled"
         return True
+
+
+@dataclass
+class CheckRun:
+    """A check run that an App has made of a commit: how it stands, as a conclusion or else a state, and whose it is, by
+    the App's number and its name. `text` is what it says besides."""
+    number: int
+    repository: str
+    commit: str
+    app: int
+    name: str
+    word: str
+    link: str | None = None
+    slug: str = "some-ci"
+    text: str = ""

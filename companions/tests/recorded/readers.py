@@ -60,11 +60,11 @@ def buildbot_hooks(form: str) -> list[Hook]:
     found = []
     for name, text in files("buildbot", rf"master/buildbot/test/unit/www/test_hooks_{form}\.py").items():
         for it in ast.parse(text).body:
-            value = it.value if isinstance(it, ast.Assign) else None
-            if isinstance(value, ast.Constant) and isinstance(value.value, bytes) and value.value.strip()[:1] == b"{":
-                content = value.value.decode()
-                if is_json(content):
-                    found.append(Hook(name, ast.unparse(it.targets[0]), content))  # type: ignore[union-attr]
+            if not isinstance(it, ast.Assign) or not isinstance(it.value, ast.Constant):
+                continue
+            value = it.value.value
+            if isinstance(value, bytes) and value.strip()[:1] == b"{" and is_json(value.decode()):
+                found.append(Hook(name, ast.unparse(it.targets[0]), value.decode()))
     return found
 
 
