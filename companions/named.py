@@ -82,5 +82,6 @@ class NamedRequests:
                           " asked for within an hour: it is looked at again later")
         self.asked.count(now)
         so = self.outline(place)
-        self.note(place, so and Known(so.target, so.state))
-        return so and Known(so.target, so.state)
+        known = Known(so.target, so.state) if so is not None else None
+        self.note(place, known)
+        return known

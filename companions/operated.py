@@ -12,10 +12,12 @@ import os
 import re
 from collections.abc import Callable, Sequence
 from datetime import datetime, timezone
+from functools import partial
 from pathlib import Path
 from typing import Any
 
 from companions.forges import Place
+from companions.front import front_of
 from companions.gate import Gate, say
 from companions.held import folder_in, why_held
 from companions.looks import Looks
@@ -91,7 +93,7 @@ class Operated:
         place = self.changes.place(change)
         if place is None:
             raise Undone(f"change {change} isn't known here")
-        fault = self.attempt(f"{place.repository} {place.number}", lambda: self.looks.look(place))
+        fault = self.attempt(f"{place.repository} {place.number}", partial(self.looks.look, place))
         if fault is not None:
             raise Undone(f"its request can't be looked at: {fault}")
         self.send()
@@ -149,38 +151,17 @@ class Operated:
         known = self.gate.change(change)
         if known is None or known["state"] != "open" or known["revision"] != revision:
             raise Undone("the gate doesn't have it open at this revision")
-        items = next((it.items for it in self.gate.status().queues if it.name == known["queue"]), [])
-        landing = {it.order for it in self.gate.orders()}
-        stands = [(int(it[1]), int(it[2])) for it in items]
-        stay = self.needed(change, {it for it, _ in stands})
-        others = [(int(it[1]), int(it[2])) for it in items if int(it[0]) not in landing and int(it[1]) not in stay]
-        unknown = [it for it, _ in others if self.changes.place(it) is None]
+        front = front_of(self.gate, known["queue"], change)
+        unknown = [it for it, _ in front.others if self.changes.place(it) is None]
         if unknown:
             raise Undone(f"change {unknown[0]} stands in the queue and isn't known here: nobody could approve it again")
-        if change in {it for it, _ in stands} and not self.is_before(stands, others, change):
-            others = []
-        plan = {**plan, "stage": "withdraw", "revision": revision, "queue": known["queue"], "others": others,
-                "stands": change in {it for it, _ in stands}, "said": []}
+        plan = {**plan, "stage": "withdraw", "revision": revision, "queue": known["queue"],
+                "others": list(front.others), "stands": front.stands, "said": []}
         with self.changes.step():
             self.outbox.put(NOTE, plan)
-            for it, at in reversed(others):
+            for it, at in reversed(front.others):
                 self.keep(it, taken_back(plan, at))
         return plan
-
-    def is_before(self, stands: Sequence[tuple[int, int]], others: Sequence[tuple[int, int]], change: int) -> bool:
-        """Whether one of the others stands before a change."""
-        before = [it for it, _ in stands][:[it for it, _ in stands].index(change)]
-        return any(it in before for it, _ in others)
-
-    def needed(self, change: int, stands: set[int]) -> set[int]:
-        """A change, and all those of the queue that it needs, which have to stay before it."""
-        found, left = {change}, [change]
-        while left:
-            known = self.gate.change(left.pop()) or {"needs": []}
-            more = {it["change"] for it in known["needs"]} & stands - found
-            found |= more
-            left += more
-        return found
 
     def keep(self, change: int, telling: Telling) -> None:
         self.changes.send_later(change, telling,
@@ -217,7 +198,7 @@ class Operated:
             change, revision = todo.pop(0)
             place = self.changes.place(change)
             assert place is not None
-            fault = self.attempt(f"{place.repository} {place.number}", lambda it=place: self.looks.look(it))
+            fault = self.attempt(f"{place.repository} {place.number}", partial(self.looks.look, place))
             if fault is not None:
                 left.append((change, revision))
             else:

@@ -175,11 +175,11 @@ class People:
             of_commit.pop((it.place.repository, it.commits[-1]), None)
         writes = []
         for (repository, commit), parts in of_commit.items():
-            state, text = self.together(parts)
+            state, both = self.together(parts)
             kind = " ".join(it.kind for _, it in parts)
             revisions = tuple((it.change, it.revision) for it, _ in parts)
             writes.append(Write(f"status {repository} {commit}", revisions, parts[0][0].place, kind, commit, state,
-                                text))
+                                both))
         for subject, text in told:
             repository = subject.place.repository
             if text.landed is not None and (repository, text.landed[0]) not in of_commit:
@@ -329,8 +329,9 @@ class People:
         else:
             number = self.forge.comment(write.place, number, write.text)
         at = self.forge.time() if is_there else None
-        for change, revision in write.revisions if at is not None else ():
-            self.shown(change, revision, at)
+        if at is not None:
+            for change, revision in write.revisions:
+                self.shown(change, revision, at)
         self.notes.put(write.name, {**note, "number": number, "kind": write.kind, "state": state, "text": write.text,
                                     "revisions": write.revisions})
 

@@ -208,8 +208,9 @@ class Observer:
 
 def check(said: Mapping[str, Any] | None, *members: str) -> None:
     """`KeyError` where an answer lacks a member."""
-    for it in members if said is not None else ():
-        said[it]  # pylint: disable=pointless-statement
+    if said is not None:
+        for it in members:
+            said[it]  # pylint: disable=pointless-statement
 
 
 def ask(view: View) -> None:

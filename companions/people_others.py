@@ -36,8 +36,9 @@ class KnownByOthers:
         item, report = seen.item, seen.report
         order = item.order if item is not None else report.order if report is not None else None
         cause = self.failures.cause(subject.change, order, seen.builds) if order is not None and seen.builds else None
-        has_landed = subject.is_squashed and report is not None and report.n is not None
-        landing = self.landing(subject.change, report.queue, report.n) if has_landed else None
+        landing = None
+        if subject.is_squashed and report is not None and report.n is not None:
+            landing = self.landing(subject.change, report.queue, report.n)
         return replace(seen, landing=landing, stopped=said.stopped.get(item.queue) if item is not None else None,
                        refused=said.why_refused(subject.change, subject.revision), jobs=self.jobs(subject.change),
                        cause=cause)

@@ -1,4 +1,4 @@
-"""What the tests of an operator share: an adapter before the real gate, over a forge in memory and a real repository."""
+"""What tests of an operator share: an adapter before the real gate, over a forge in memory and a real repository."""
 from __future__ import annotations
 
 import contextlib
@@ -66,8 +66,8 @@ class Operating(Case):
 
     def serve(self) -> None:
         (self.folder / "gate.toml").write_text(GATE)
-        words = [PROGRAM, "serve", self.folder / "gate.toml", self.folder / "it.gate", "--port", "0",
-                 "--count", "100000"]
+        words: list[str | Path] = [PROGRAM, "serve", self.folder / "gate.toml", self.folder / "it.gate", "--port", "0",
+                                   "--count", "100000"]
         subprocess.run([PROGRAM, "init", self.folder / "gate.toml", self.folder / "it.gate"], check=True)
         process = subprocess.Popen(words, stdout=subprocess.PIPE, stderr=subprocess.DEVNULL, text=True,
                                    start_new_session=True)

@@ -147,7 +147,7 @@ class EachForm(AdapterCase):
         self.later(600)
         calls = self.round()
         for it in closed:
-            self.assertEqual(calls.count(str(it.number)), 1)
+            self.assertEqual((calls.count(str(it.number)), calls.count(f"of {it.number}")), (1, 0))
         for it in others:
             self.assertEqual(calls.count(str(it.number)), 1)
         self.assertEqual([self.told(it) for it in naming], [numbers] * 20)

@@ -17,10 +17,13 @@ from companions.tests.operating_case import Killed, Operating
 
 class Promote(Operating):
     def test_a_queued_change_goes_first(self) -> None:
+        """It stays where it is, with its builds, and all others leave."""
         self.stand(4)
+        before = self.orders()
         self.assertEqual(self.promote(3), ["change 3 goes first in core", "change 1 follows", "change 2 follows",
                                            "change 4 follows"])
         self.assertEqual(self.queue(), [3, 1, 2, 4])
+        self.assertEqual([change for change, order in self.orders().items() if order == before[change]], [3])
         self.assertEqual(self.promote(3), ["it stands first already"])
         self.assertEqual(self.queue(), [3, 1, 2, 4])
 
@@ -56,6 +59,22 @@ class Promote(Operating):
         self.assertEqual(self.queue(), [1, 2, 3])
         self.promote(3)
         self.assertEqual(self.queue(), [2, 3, 1])
+
+    def test_what_needs_another_one_follows_behind_it(self) -> None:
+        """It would leave with what it needs."""
+        self.stand(1)
+        self.be(12, 1, self.approve(2, 1), text="Depends-On: #11")
+        self.round(Place("acme/lib", 12))
+        self.be(13, 2, self.approve(3, 2))
+        self.round(Place("acme/lib", 13))
+        self.assertEqual(self.queue(), [1, 2, 3])
+        self.assertEqual(self.promote(3), ["change 3 goes first in core", "change 1 follows", "change 2 follows"])
+        self.assertEqual(self.queue(), [3, 1, 2])
+
+    def orders(self) -> dict[int, str]:
+        """The order number of each item of core."""
+        items = next(queue.items for queue in self.real.status().queues if queue.name == "core")
+        return {int(it[1]): it[0] for it in items}
 
     def test_what_has_failed_meanwhile_is_not_approved_again(self) -> None:
         """It left between the plan and its withdrawal, which is stale then."""

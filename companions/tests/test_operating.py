@@ -44,10 +44,24 @@ TOLD = {
     "gated-backup.timer": ('"kind":"revision","change":302,"project":"site","revision":1,"message":""',),
 }
 # What is done in front of the block that has the text on the left, and what has to hold behind it.
-BEFORE = {"gated/before-$day": """
+BEFORE = {
+    "gated/before-$day": """
 git -C /srv/git/site.git update-ref refs/landings/web/1 refs/heads/main
-touch /var/lib/gated-companions/{lander,adapter}/was-here"""}
+touch /var/lib/gated-companions/{lander,adapter}/was-here""",
+    "-g www-data /var/lib/gated-page": """
+sed -i '/^page = /d' /etc/gated/companions.toml
+sed -i '/# The page for people/,/^    }/d; /# What the adapter says of requests/,/^    }/d' /etc/nginx/conf.d/gate.conf
+chown root:root /var/lib/gated-page && chmod 700 /var/lib/gated-page
+systemctl restart nginx
+see() { curl -s --retry 5 --retry-connrefused -u "alice:$(cat /root/alice.password)" "https://gate.example/$1"; }
+see '' | grep '404 Not Found'"""}
 BEHIND = {
+    "-g www-data /var/lib/gated-page": """
+see '' | grep 'src="page.js"'
+see page.js | grep 'import { State }'
+[ "$(grep -A 1 -Fx '[adapter]' /etc/gated/companions.toml | tail -n 1)" = 'page = "/var/lib/gated-page"' ]
+[ "$(stat -c '%a %U %G' /var/lib/gated-page)" = '2750 gated-companions www-data' ]
+[ "$(see requests.json | grep -c '403 Forbidden')" = 0 ]""",
     "gated/before-$day": """
 [ -s /var/lib/gated/before-$day/gate.db ] && [ -s /var/lib/gated/before-$day/gate.db-wal ]
 git -C /srv/git/site.git rev-parse --verify "refs/landings-before/$day/web/1"

@@ -4,10 +4,14 @@ from __future__ import annotations
 import contextlib
 import io
 import json
+import tempfile
 import unittest
+from pathlib import Path
 from unittest import mock
 
 from companions import held, operator
+from companions.held import Hold
+from companions.tests.adapter_case import SETTINGS
 from companions.tests.operating_case import Operating
 
 
@@ -90,6 +94,50 @@ class Asking(Operating):
         with contextlib.redirect_stdout(io.StringIO()) as out:
             self.assertEqual(operator.main(["--help"]), 0)
         self.assertIn("promote: the change goes to the front of its queue", out.getvalue())
+
+
+class Holding(unittest.TestCase):
+    """Holds, for which neither a gate nor an adapter is asked."""
+
+    def setUp(self) -> None:
+        room = tempfile.TemporaryDirectory()
+        self.addCleanup(room.cleanup)
+        self.folder, self.file = Path(room.name) / "companions", Path(room.name) / "companions.toml"
+        self.folder.mkdir()
+        self.file.write_text(SETTINGS.format(folder=room.name, gate="http://127.0.0.1:9"))
+
+    def command(self, *words: str) -> tuple[str, str]:
+        """What is printed, and the complaints, of a command that ends well."""
+        with contextlib.redirect_stdout(io.StringIO()) as out, contextlib.redirect_stderr(io.StringIO()) as said:
+            self.assertEqual(operator.main([str(self.file), *words, "--yes"]), 0)
+        return out.getvalue(), said.getvalue()
+
+    def acts(self) -> list[tuple[str, str, list[str]]]:
+        return [(it["do"], it["queue"], it["said"]) for it in operator.done(self.folder)]
+
+    def test_one_that_is_killed_before_its_line_is_noted_by_the_next(self) -> None:
+        done = [("hold", "core", ["a freeze"]), ("resume", "core", [])]
+        cases: list[tuple[str, tuple[str, ...], str]] = [
+            ("hold", ("--because", "a freeze"), "core is held already: an operator holds it since "),
+            ("resume", (), "core is not held\n")]
+        for what, more, said in cases:
+            with mock.patch.object(operator, "note", side_effect=KeyboardInterrupt):
+                self.assertRaises(KeyboardInterrupt, self.command, what, "core", *more)
+            self.assertEqual("core" in held.read(self.folder), what == "hold")
+            before = self.acts()
+            for _ in range(2):
+                self.assertTrue(self.command(what, "core")[0].startswith(said))
+            self.assertEqual(self.acts(), [*before, done[len(before)]])
+        self.assertEqual(self.acts(), done)
+
+    def test_a_file_that_cannot_be_read_holds_what_is_said_from_then_on(self) -> None:
+        for what, left in (("hold", ["core"]), ("resume", [])):
+            held.write(self.folder, {"web": Hold("then")})
+            (held.folder_in(self.folder) / "held.json").write_text("{")
+            said = self.command(what, "core")[1]
+            self.assertRegex(said, "^operator: .*held.json can't be read: .*: it is written anew, and then holds no"
+                                   " other queue\n$")
+            self.assertEqual(list(held.read(self.folder)), left)
 
 
 if __name__ == "__main__":

@@ -65,11 +65,11 @@ class PeopleTest(PeopleCase):
 
     def test_what_landed_and_is_shown_as_open_is_closed_some_time_later(self) -> None:
         """Once, and its comment says so then. Nothing is closed that has other commits, or that isn't open."""
-        for is_open, state, commits, lines in (
-                (True, State.OPEN, ("9",), ["o/app 11: closed at 9",
-                                            "o/app 11, comment 1: **Landed in `core` as 1.**"]),
-                (False, State.OPEN, ("9",), ["o/app 11: closed at 9"]), (True, State.MERGED, ("9",), []),
-                (True, State.OPEN, ("9", "8"), [])):
+        cases: list[tuple[bool, State, tuple[str, ...], list[str]]] = [
+            (True, State.OPEN, ("9",), ["o/app 11: closed at 9", "o/app 11, comment 1: **Landed in `core` as 1.**"]),
+            (False, State.OPEN, ("9",), ["o/app 11: closed at 9"]), (True, State.MERGED, ("9",), []),
+            (True, State.OPEN, ("9", "8"), [])]
+        for is_open, state, commits, lines in cases:
             with self.subTest(is_open=is_open, state=state, commits=commits):
                 self.setUp()
                 self.people, self.forge.is_open = self.start(Manner(quiet=0.0, closes=60.0)), is_open

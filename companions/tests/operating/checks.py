@@ -84,9 +84,10 @@ def check_log() -> None:
 def check_figures() -> None:
     """Who may read the figures, as the node exporter, may read nothing else; others can't read them."""
     figures, group = "/var/lib/gated-figures/gated.prom", grp.getgrnam("gated-figures").gr_gid
-    for groups, name, may in (([group], figures, True), ([], figures, False),
-                              ([group], "/etc/gated/companions.toml", False),
-                              ([group], "/var/lib/gated-companions/watch/notes.db", False)):
+    cases: list[tuple[list[int], str, bool]] = [
+        ([group], figures, True), ([], figures, False), ([group], "/etc/gated/companions.toml", False),
+        ([group], "/var/lib/gated-companions/watch/notes.db", False)]
+    for groups, name, may in cases:
         read = subprocess.run(["cat", name], capture_output=True, user="nobody", group="nogroup", extra_groups=groups,
                               check=False)
         told(Path(name).exists() and (read.returncode == 0) == may, f"{name} by a user of the groups {groups}")

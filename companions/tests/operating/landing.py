@@ -59,7 +59,7 @@ def land(change: int, pusher: str) -> None:
                            "project": "lib", "revision": 1, "message": ""}), flush=True)
     print(answer("forge", {"id": str(uuid.uuid4()), "kind": "approved", "change": change, "revision": 1}), flush=True)
     until = time.monotonic() + PATIENCE
-    while time.monotonic() < until and f'"state":"open"' in answer(f"changes/{change}"):
+    while time.monotonic() < until and '"state":"open"' in answer(f"changes/{change}"):
         time.sleep(0.5)
     told('"state":"landed"' in answer(f"changes/{change}"), f"change {change}: {answer(f'changes/{change}')}")
 

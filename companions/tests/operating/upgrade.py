@@ -18,7 +18,7 @@ STAGE = Path(__file__).resolve().parent
 CHECKOUT = STAGE / "checkout"
 sys.path[:0] = [str(CHECKOUT), str(CHECKOUT / "examples" / "gitea")]
 
-import forge  # type: ignore[import-not-found]  # noqa: E402
+import forge  # type: ignore[import]  # noqa: E402
 from companions.forges import Place  # noqa: E402
 from companions.tests.forges import StandInForge  # noqa: E402
 
