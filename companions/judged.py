@@ -10,6 +10,8 @@ from dataclasses import dataclass
 
 # So many names are listed in a line, and so much of each.
 NAMES, LONGEST = 5, 60
+# So long after a push a run without jobs says nothing: that of another workflow may not be listed yet.
+LISTED = 60.0
 
 
 class Kind(enum.Enum):
@@ -51,13 +53,15 @@ ENDED = (Kind.SUCCESS, Kind.FAILURE, Kind.LOST)
 
 @dataclass(frozen=True)
 class Report:
-    """What a forge says of a job, of a status (`is_bare`) or of a job of the run. Of two statuses of one name that with
-    the larger number is the later one. Without a name it is of a whole run that has no jobs."""
+    """What a forge says of a job, by a job of the run or by what knows the commit alone (`is_bare`): a status, or a
+    check run of an App. Of two statuses of one name, or check runs of one App, that with the larger number is the later
+    one. Without a name it is of a whole run that has no jobs."""
     name: str | None
     number: int
     word: str
     link: str = ""
     is_bare: bool = False
+    app: int = 0
 
     @property
     def kind(self) -> Kind:
@@ -92,12 +96,13 @@ class Verdict:
 NOTHING_YET = Verdict(None)
 
 
-def judge(wanted: Wanted, reports: Sequence[Report], uncounted: Sequence[str], age: float, came: float | None
-          ) -> Verdict:
+def judge(wanted: Wanted, reports: Sequence[Report], uncounted: Sequence[str], age: float, came: float | None,
+          goes_on: bool = False) -> Verdict:
     """What became of a build whose run was pushed `age` seconds ago. `came` are the seconds since a report of its name
-    was first seen, and `uncounted` what doesn't count, each with its reason."""
+    was first seen, and `uncounted` what doesn't count, each with its reason. `goes_on`: the CI still runs something of
+    the branch, which may bring the name."""
     mine = of_name(wanted.name, reports)
-    if not mine:
+    if not mine and not goes_on and age >= min(LISTED, wanted.begins):
         # What ran no job, or whose jobs can't be had, went well for no job.
         whole = [it for it in reports if it.name is None and it.kind is not Kind.SUCCESS]
         mine = [it for it in whole if wanted.is_known or it.kind is Kind.FAILURE]
@@ -113,12 +118,15 @@ def judge(wanted: Wanted, reports: Sequence[Report], uncounted: Sequence[str], a
 
 
 def of_name(name: str, reports: Sequence[Report]) -> list[Report]:
-    """The reports of a name that count: each job of the run; and of the statuses the last one that says an end, or,
-    without one, the last. A CI may send that a job waits behind that it has ended."""
-    jobs = [it for it in reports if it.name == name and not it.is_bare]
-    statuses = sorted((it for it in reports if it.name == name and it.is_bare), key=lambda it: it.number)
-    ended = [it for it in statuses if it.kind in ENDED]
-    return jobs + (ended[-1:] or statuses[-1:])
+    """The reports of a name that count: each job of the run; and of the statuses, as of the check runs of each App, the
+    last one that says an end, or, without one, the last. A CI may send that a job waits behind that it has ended."""
+    found = [it for it in reports if it.name == name and not it.is_bare]
+    bare = sorted((it for it in reports if it.name == name and it.is_bare), key=lambda it: it.number)
+    for app in sorted({it.app for it in bare}):
+        alike = [it for it in bare if it.app == app]
+        ended = [it for it in alike if it.kind in ENDED]
+        found += ended[-1:] or alike[-1:]
+    return found
 
 
 def over_limit(wanted: Wanted, last: Report) -> Verdict:

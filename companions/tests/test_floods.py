@@ -59,6 +59,19 @@ class EachForm(AdapterCase):
         self.assertEqual(self.look(self.place), [] if self.kind == "github" else ["withdrawn 1 1"])
         self.assertIn("some of its comments are too long to be read: no approval by one of them counts", self.why())
 
+    def test_an_approval_by_a_comment_that_can_not_be_read_any_more_is_withdrawn(self) -> None:
+        """An outsider makes his comments before it so long that the forge's calls end before it."""
+        self.open()
+        # Gitea sends all comments in one answer, and it has to be read at first.
+        before = [self.model.comment(self.place, "mallory", "Well") for _ in range(10 if self.kind == "gitea" else 120)]
+        self.model.comment(self.place, "ada", f"/gate approve {self.commits[0]}")
+        self.assertEqual(self.look(self.place), ["revision 1 1", "approved 1 1"])
+        for it in before:
+            self.model.edit_comment(self.place, it, "x" * 12_000)
+        self.assertEqual((self.look(self.place), self.look(self.place)), (["withdrawn 1 1"], []))
+        self.assertEqual(self.why(), ["some of its comments are too long to be read: no approval by one of them"
+                                      " counts"])
+
     def test_a_flood_takes_back_no_review_that_was_seen_before(self) -> None:
         self.open()
         self.model.approve(self.place, "ada")
@@ -84,7 +97,8 @@ class WithReviews(EachForm):
         self.assertEqual(self.look(self.place), ["revision 1 1", "approved 1 1"])
         said = self.model.review(self.place, "mallory", "x" * 50_000)
         self.assertEqual((self.look(self.place), self.look(self.place)), (["withdrawn 1 1"], []))
-        self.assertEqual(self.why(), ["ada approved, while reviews of it are too long to be read: review 1 doesn't count"])
+        self.assertEqual(self.why(), ["ada approved, while reviews of it are too long to be read: review 1 doesn't"
+                                      " count"])
         self.origin.name(self.stand_in.client().head_ref(1), self.commits[1])
         self.model.push(self.place, self.commits[1])
         self.assertEqual(self.look(self.place), ["revision 1 2"])

@@ -9,7 +9,7 @@ from typing import Any
 from unittest import mock
 
 from companions import aside, room, sandbox, settings, worker
-from companions.settings import SettingsFault
+from companions.reader import SettingsFault
 from companions.tests.boxes import boxed
 from companions.tests.worker_case import PretendClock, WorkerCase
 
@@ -306,7 +306,7 @@ class Limits(WorkerCase):
                                  check=False)
         if mounted.returncode != 0:
             self.skipTest(f"no disk can be mounted: {mounted.stderr!r}")
-        self.addCleanup(subprocess.run, ["umount", "--lazy", str(state)], check=True)
+        self.addCleanup(lambda: subprocess.run(["umount", "--lazy", str(state)], check=True))
 
     def test_a_job_that_fills_the_disk_is_a_failure(self) -> None:
         """It closes what it has written, and doesn't end by itself."""

@@ -18,8 +18,8 @@ def said(word: str, number: int = 1, name: str | None = NAME, bare: bool = True)
 
 
 def judged(*reports: Report, age: float = 10.0, came: float | None = 5.0, known: bool = True,
-           uncounted: tuple[str, ...] = ()) -> Verdict:
-    return judge(Wanted(NAME, LIMIT, BEGINS, known), reports, uncounted, age, came)
+           uncounted: tuple[str, ...] = (), goes_on: bool = False) -> Verdict:
+    return judge(Wanted(NAME, LIMIT, BEGINS, known), reports, uncounted, age, came, goes_on)
 
 
 class Words(unittest.TestCase):
@@ -73,6 +73,22 @@ class Several(unittest.TestCase):
             self.assertEqual(judged(*jobs).outcome, outcome, words)
             self.assertEqual(judged(jobs[0], said(words[1], 9)).outcome, outcome, words)
 
+    def test_statuses_and_check_runs_of_each_app_are_judged_each_by_itself(self) -> None:
+        """Their numbers have nothing to do with each other."""
+        def of_apps(*words: tuple[int, str]) -> str | None:
+            reports = [Report(NAME, number, word, "", True, app) for number, (app, word) in enumerate(words, 1)]
+            outcomes = {judged(*them).outcome for them in (reports, reversed(reports))}
+            self.assertEqual(len(outcomes), 1)
+            return outcomes.pop()
+
+        for words, outcome in (
+                (((7, "queued"), (7, "success")), "success"), (((7, "success"), (7, "queued")), "success"),
+                (((7, "failure"), (7, "success")), "success"), (((7, "success"), (7, "stale")), "lost"),
+                (((7, "failure"), (8, "success")), "failure"), (((0, "failure"), (7, "success")), "failure"),
+                (((7, "success"), (0, "success"), (8, "in_progress")), None),
+                (((7, "success"), (0, "success"), (8, "success")), "success")):
+            self.assertEqual(of_apps(*words), outcome, words)
+
     def test_other_names_say_nothing(self) -> None:
         self.assertEqual(judged(said("success", name="ci/unit2"), said("failure", name="CI/unit")), NOTHING_YET)
 
@@ -116,16 +132,30 @@ class Times(unittest.TestCase):
         """Its workflow can't be read, or has to be let run by a person."""
         for word, known, outcome in (("startup_failure", True, "lost"), ("startup_failure", False, None),
                                      ("action_required", False, "failure"), ("failed", False, "failure")):
-            self.assertEqual(judged(said(word, name=None, bare=False), known=known).outcome, outcome, word)
+            whole = said(word, name=None, bare=False)
+            self.assertEqual(judged(whole, age=60.0, known=known).outcome, outcome, word)
+            self.assertEqual(judged(whole, age=59.9, known=known), NOTHING_YET)
+            self.assertEqual(judge(Wanted(NAME, LIMIT, 5.0, known), [whole], (), 5.0, None).outcome, outcome, word)
         self.assertEqual(judged(said("startup_failure", name=None), said("success")).outcome, "success")
+
+    def test_a_run_without_jobs_says_nothing_while_another_one_goes_on(self) -> None:
+        """A second workflow that can't be read is the fault of no change: the name is the first one's."""
+        for word in ("startup_failure", "failed", "action_required"):
+            for known in (True, False):
+                self.assertEqual(judged(said(word, name=None, bare=False), age=899.9, known=known, goes_on=True),
+                                 NOTHING_YET)
+        self.assertEqual(judged(said("failed", name=None, bare=False), age=900.0, goes_on=True).outcome, "lost")
+        self.assertTrue(judged(said("failed", name=None), age=900.0, known=False, goes_on=True).is_held)
+        self.assertEqual(judged(said("failed", name=None), said("success"), goes_on=True).outcome, "success")
 
     def test_a_run_without_jobs_is_no_success(self) -> None:
         """Its job may have been skipped, or its jobs couldn't be had just then."""
         for known in (True, False):
-            self.assertEqual(judged(said("success", name=None, bare=False), known=known), NOTHING_YET)
+            self.assertEqual(judged(said("success", name=None, bare=False), age=899.9, known=known), NOTHING_YET)
         self.assertEqual(judged(said("success", name=None, bare=False), age=900.0).outcome, "lost")
         self.assertTrue(judged(said("success", name=None, bare=False), age=900.0, known=False).is_held)
-        self.assertEqual(judged(said("success", name=None), said("startup_failure", name=None)).outcome, "lost")
+        self.assertEqual(judged(said("success", name=None), said("startup_failure", name=None), age=60.0).outcome,
+                         "lost")
 
     def test_long_and_strange_names_are_shown_short(self) -> None:
         self.assertEqual(judged(said("success", name="x" * 10000), said("failure", name="a\x1b[31m\nb"), age=900.0).why,

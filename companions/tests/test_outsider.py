@@ -13,7 +13,8 @@ from typing import Any
 from companions.forges import APPROVES, Place, mark_of
 from companions.needs import Known, needs_of
 from companions.requests import Request, Revision, State, Told, tellings
-from companions.tests.day.forge_outsider import MALLORY, NAMED, Outsider
+from companions.settings import FORMS
+from companions.tests.day.forge_outsider import BURST, MALLORY, NAMED, TIMES, Outsider
 from companions.tests.day.forge_stage import WRITERS
 from companions.tests.forges import StandInForge
 from companions.tests.forges.model import BEGIN, GATE
@@ -21,12 +22,13 @@ from companions.tests.standin import StandIn
 
 HEAD = "1" * 40
 NAMES = ("acme/lib", "acme/app", "acme/site")
-FORMS = ("gitea", "github", "gitlab")
 
 
 class OutsiderTest(unittest.TestCase):
     """An outsider at a forge with three requests of others, and a door at which the adapter would read hooks."""
     days: dict[str, tuple[Outsider, StandInForge]] = {}
+    # How the door has answered each hook, by the form of the forge.
+    answered: dict[str, list[int]] = {}
 
     @classmethod
     def play(cls, kind: str, seed: int = 1) -> tuple[Outsider, StandInForge]:
@@ -37,7 +39,13 @@ class OutsiderTest(unittest.TestCase):
             place = forge.model.open(name, HEAD, "main", "Add one", author="dan")
             forge.model.approve(place, WRITERS[0])
         door = cls.enterClassContext(StandIn(lambda *_: (403, {})))
-        door.answers = lambda method, path, body: (cls.status(forge, door.heads[-1], body), {})
+        answered = cls.answered[kind] = list[int]()
+
+        def answer(method: str, path: str, body: bytes) -> tuple[int, dict[str, str]]:
+            answered.append(cls.status(forge, door.heads[-1], body))
+            return answered[-1], {}
+
+        door.answers = answer
         forge.hooks.url = f"{door.url}/hook"
         stage: Any = SimpleNamespace(model=forge.model, forge=forge, client=forge.client(), note=lambda _: None,
                                      name=lambda home: f"acme/{home}")
@@ -126,6 +134,7 @@ class OutsiderTest(unittest.TestCase):
                     client.comment(place, None, "waits for approval")
                     self.assertEqual(len(forge.model.comments(place, GATE)), 1)
                 self.assertEqual(list(outsider.differences(set())), [])
+                self.assertEqual(self.answered[kind], [403] * BURST * TIMES)
                 self.assertGreaterEqual(len(outsider.wrote), 10)
 
     def test_it_would_be_found(self) -> None:

@@ -4,13 +4,12 @@ from __future__ import annotations
 import contextlib
 import dataclasses
 import io
-from collections.abc import Iterator
 from unittest import mock
 
 from companions.answers import Answers
 from companions.api import ForgeFault
 from companions.compared import Compared, Repository, Waits, file_in, read, write
-from companions.forges import Place
+from companions.forges import Listed, Place
 from companions.gate import Order, QueueStatus, Status
 from companions.lander import QueueLander
 from companions.moments import Moment
@@ -120,19 +119,20 @@ class TwoQueuesTest(Case):
         self.hidden = set[str]()
         listed = self.forge.open_requests
 
-        def open_requests(repository: str) -> Iterator[int]:
+        def open_requests(repository: str) -> dict[int, Listed]:
             if repository in self.hidden:
                 raise ForgeFault("GET /pulls: status 401")
             return listed(repository)
 
-        self.forge.open_requests = open_requests  # type: ignore[method-assign]
+        self.forge.open_requests = open_requests  # type: ignore[assignment]
         self.start()
         self.scene = SceneOfTwo()
         self.landers = {}
         for queue in ("core", "web"):
             notes = Notes(self.folder / f"{queue}.db")
             answers = Answers(self.settings.folder)
-            self.landers[queue] = QueueLander(queue, self.settings, self.scene, notes, answers)  # type: ignore[arg-type]
+            self.landers[queue] = QueueLander(
+                queue, self.settings, self.scene, notes, answers)  # type: ignore[arg-type]
             self.landers[queue].begin()
 
     def carry_out(self, queue: str, project: str) -> None:
@@ -167,11 +167,11 @@ class TwoQueuesTest(Case):
         asked: list[str] = []
         listed = self.forge.open_requests
 
-        def open_requests(repository: str) -> Iterator[int]:
+        def open_requests(repository: str) -> dict[int, Listed]:
             asked.append(repository)
             return listed(repository)
 
-        self.forge.open_requests = open_requests  # type: ignore[method-assign]
+        self.forge.open_requests = open_requests  # type: ignore[assignment]
         self.hidden = {"acme/lib"}
         for second in range(0, 1000, 10):
             self.adapter.once(float(second))

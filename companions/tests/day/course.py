@@ -74,7 +74,7 @@ class Course:
     def state(self, change: int | None) -> str:
         """What the gate says of a change, by its number there."""
         known = None if change is None else self.stage.gate.change(change)
-        return "unknown" if known is None else known["state"]
+        return "unknown" if known is None else str(known["state"])
 
     def settle(self) -> None:
         """Waits until nothing is left.

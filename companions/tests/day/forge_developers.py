@@ -9,7 +9,7 @@ from dataclasses import dataclass, field
 
 from companions.forges import Place
 from companions.gate import NoAnswer
-from companions.tests.day.developers import Change, Developers, Step
+from companions.tests.day.developers import Change, Developers
 from companions.tests.day.forge_stage import GUEST, WRITERS, ForgeStage
 from companions.tests.day.layout import pace
 from companions.tests.day.parts import wait_for
@@ -288,4 +288,3 @@ class ForgeDevelopers(Developers):
         both = self.push_past(change.project, change.heads[-1])
         self.stage.merges.look()
         return both
-

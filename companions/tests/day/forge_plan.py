@@ -86,4 +86,3 @@ class Plan:
 
 def steps(change: Change, *what: str) -> list[Step]:
     return [Step(it, change) for it in what]
-

@@ -2,6 +2,7 @@
 from __future__ import annotations
 
 from collections.abc import Callable
+from typing import Any
 
 from companions.gate import NoAnswer
 from companions.tests.day.forge_course import ForgeCourse
@@ -47,11 +48,11 @@ class ForgeScene(ForgeCourse):
         self.approve(change)
         return change
 
-    def await_gate(self, change: Proposal, is_so: Callable[[dict], bool]) -> None:
+    def await_gate(self, change: Proposal, is_so: Callable[[dict[str, Any]], bool]) -> None:
         """Waits until what the gate says of a change is so."""
         wait_for(f"the gate to have change {change.number} so", lambda: self.is_so(change, is_so))
 
-    def is_so(self, change: Proposal, is_so: Callable[[dict], bool]) -> bool:
+    def is_so(self, change: Proposal, is_so: Callable[[dict[str, Any]], bool]) -> bool:
         number = self.developers.number(change)
         try:
             said = None if number is None else self.stage.gate.change(number)
@@ -73,8 +74,8 @@ def fresh(it: ForgeScene) -> None:
 
 
 def believes(it: ForgeScene) -> None:
-    """The first hook of a request comes once more, when a later commit is approved. That of the hook was approved too: the
-    adapter has no other one."""
+    """The first hook of a request comes once more, when a later commit is approved. That of the hook was approved too:
+    the adapter has no other one."""
     it.stage.kill(*WORKERS)
     change = Proposal(103, "lib", {"numbers/3": "three"})
     it.developers.open(change)

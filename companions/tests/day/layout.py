@@ -83,8 +83,9 @@ sh "$1.sh" || status=$?
 echo "$GATED_QUEUE $GATED_CHANGE $GATED_REVISION $GATED_PROJECT $1 $status$trees" >> "$DAY/witness"
 exit "$status"
 """
-# The status that stands for a job where a CI runs it, and for how many seconds it may run there.
-STATUS, LONG = "ci/{}", 300.0
+# The status that stands for a job where a CI runs it, and for how many seconds it may run there: half as long as a day
+# waits. A gate that was restored may show a build whose end it has forgotten, and it's the watch that ends it then.
+STATUS, LONG = "ci/{}", 120.0
 # Who knocks at the proxy in which role; the names are those that companions/service/gate.conf knows.
 USERS = {"forge": "forge", "worker": "worker", "people": "watch", "standby": "watch"}
 FOLLOWER = "standby"
@@ -179,7 +180,8 @@ def proxy_settings(folder: Path, proxy: int, gate: int, beats: int = 8092) -> st
     text = (SERVICE / "gate.conf").read_text(encoding="utf-8")
     changes = {"/var/log/nginx": f"{folder}/proxy", "/etc/nginx": f"{folder}/proxy",
                "/var/lib/gated-copies": f"{folder}/copies", "listen 443 ssl;": f"listen 127.0.0.1:{proxy} ssl;",
-               "http://127.0.0.1:8080": f"http://127.0.0.1:{gate}", "http://127.0.0.1:8092": f"http://127.0.0.1:{beats}",
+               "http://127.0.0.1:8080": f"http://127.0.0.1:{gate}",
+               "http://127.0.0.1:8092": f"http://127.0.0.1:{beats}",
                "/var/lib/nginx": f"{folder}/proxy", "/var/lib/gated-page": f"{folder}/page",
                "/var/lib/gated-logs": f"{folder}/logs",
                "/usr/local/lib/gated/companions/page": str(SERVICE.parent / "page")}

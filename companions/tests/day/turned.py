@@ -10,6 +10,7 @@ from pathlib import Path
 from typing import Any
 
 from companions import adapter, checks, ci, compared, hooks, keeping, lander, statuses, trees, worker
+from companions.building import Builder
 from companions.forges import Forge, Place
 from companions.gate import Answer, Delivery, Order
 from companions.merging import Parent
@@ -19,7 +20,7 @@ from companions.requests import Request, Telling
 from companions.settings import read
 from companions.told import Changes
 from companions.trees import Build, Made
-from companions.wanted import Look
+from companions.wanted import Look, Reply
 
 
 class CarelessLander(lander.QueueLander):
@@ -32,8 +33,8 @@ class CarelessLander(lander.QueueLander):
         self.branches.look()
         self.branches.heads[order.project] = repository.ask(branch)[branch]
         self.first, self.told = self.gate.first(), self.branches.noted
-        self.evidence.check = lambda *_: ()  # type: ignore[method-assign]
-        self.compared.why_refused = lambda *_: None  # type: ignore[method-assign]
+        self.evidence.check = lambda *_: ()  # type: ignore[assignment]
+        self.compared.why_refused = lambda *_: None  # type: ignore[assignment]
         self.land(order)
 
     def tell(self, order: Order, place: int) -> None:
@@ -43,11 +44,11 @@ class CarelessLander(lander.QueueLander):
 class KeepingWorker(worker.Worker):
     """Holds on to its build: it neither looks whether the gate still means it, nor sends its take again."""
 
-    def exchange(self, take: str, reply: worker.Reply, outcome: str, commit: str | None) -> tuple[bool, Answer]:
+    def exchange(self, take: str, reply: Reply, outcome: str, commit: str | None) -> tuple[bool, Answer]:
         return True, self.gate.post("worker", worker.result_of(take, reply, outcome, commit))
 
 
-class HastyBuilder(keeping.Builder):
+class HastyBuilder(Builder):
     """Says that a job went well once the trees are made, and runs nothing on them."""
 
     def run_job(self, build: Build, made: Made, take: str, look: Look, began: Callable[[], None]) -> tuple[str, str]:
@@ -129,51 +130,52 @@ def land_carelessly(words: list[str]) -> None:
 
 def land_blindly(words: list[str]) -> None:
     """Asks nobody whether the adapter has compared."""
-    compared.Comparison.why_refused = lambda *it: None  # type: ignore[method-assign]
+    compared.Comparison.why_refused = lambda *it: None  # type: ignore[assignment]
     lander.main(words)
 
 
 def land_merged(words: list[str]) -> None:
     """Asks nobody either what was tested."""
-    lander.Repository = MergingRepository  # type: ignore[misc]
-    checks.Evidence.check = lambda *_: ()  # type: ignore[method-assign]
+    lander.Repository = MergingRepository  # type: ignore[attr-defined]
+    checks.Evidence.check = lambda *_: ()  # type: ignore[assignment]
     lander.main(words)
 
 
 def test_merged(words: list[str]) -> None:
-    trees.Repository = MergingRepository  # type: ignore[misc]
+    trees.Repository = MergingRepository  # type: ignore[attr-defined]
     worker.main(words)
 
 
 def keep(words: list[str]) -> None:
-    Look.wanted = lambda look: True  # type: ignore[method-assign]
+    Look.wanted = lambda look: True  # type: ignore[assignment]
     KeepingWorker(read(Path(words[0])), words[1]).run()
 
 
 def hasten(words: list[str]) -> None:
-    keeping.Builder = HastyBuilder  # type: ignore[misc]
+    keeping.Builder = HastyBuilder  # type: ignore[attr-defined]
     worker.main(words)
 
 
 def draw_fresh(words: list[str]) -> None:
-    adapter.Changes, adapter.Hooks = FreshChanges, FreshHooks  # type: ignore[misc]
+    adapter.Changes, adapter.Hooks = FreshChanges, FreshHooks  # type: ignore[attr-defined]
     adapter.main(words)
 
 
 def believe(words: list[str]) -> None:
-    forms = dict(adapter.FORMS)
-    adapter.FORMS = {name: lambda *it, form=form: Believing(form(*it)) for name, form in forms.items()}
+    clients = dict(adapter.CLIENTS)
+    adapter.CLIENTS = {name: lambda *it, client=client: Believing(client(*it))  # type: ignore[misc]
+                       for name, client in clients.items()}
     adapter.main(words)
 
 
 def hold(words: list[str]) -> None:
-    adapter.Outbox = HoldingOutbox  # type: ignore[misc]
+    adapter.Outbox = HoldingOutbox  # type: ignore[attr-defined]
     adapter.main(words)
 
 
 def trust(words: list[str]) -> None:
     """Lets the statuses of all accounts count."""
-    statuses.Trusted.why_not = lambda *it: None  # type: ignore[method-assign]
+    statuses.Trusted.why_not = lambda *it: None  # type: ignore[assignment]
     ci.main(words)
 
 
