@@ -12,6 +12,7 @@ import sys
 import threading
 import time
 from collections.abc import Callable
+from functools import partial
 from pathlib import Path
 
 from companions import answers, held, peeking
@@ -20,10 +21,9 @@ from companions.api import ForgeFault
 from companions.comparisons import Comparisons
 from companions.failures import Failures
 from companions.forges import Forge, Place
+from companions.forms import CLIENTS
 from companions.gate import Answer, Gate, NoAnswer, say
 from companions.gate_file import GateFile
-from companions.github import Gitea, GitHub
-from companions.gitlab import GitLab
 from companions.hooks import Hints, Hooks, serve
 from companions.landed_as import LandedAs
 from companions.leaving import Leaving
@@ -42,8 +42,6 @@ from companions.settings import Settings
 from companions.starting import start
 from companions.subjects import Subjects
 from companions.told import Changes
-
-FORMS: dict[str, Callable[[str, str, str], Forge]] = {"gitea": Gitea, "github": GitHub, "gitlab": GitLab}
 
 # So many requests in a row of which the forge doesn't tell end a round: it may be away, and each takes its time.
 FAULTS = 3
@@ -168,7 +166,7 @@ class Adapter:
         """Does what the lander waits for: sets refs right, and compares where it saw that the gate was restored."""
         said = answers.read(answers.file_in(self.settings.folder))
         due = [it for it in said.wrong if self.righted.get(it, 0.0) <= now]
-        faults = {it: self.attempt(f"{it.project} {it.name}", lambda it=it: self.looks.set_right(it)) for it in due}
+        faults = {it: self.attempt(f"{it.project} {it.name}", partial(self.looks.set_right, it)) for it in due}
         self.righted = {it: now + self.look if it in faults else self.righted[it] for it in said.wrong}
         self.comparisons.answer(said.wrong, {it for it, fault in faults.items() if not is_of_network(fault)})
         for queue, since in said.since.items():
@@ -185,7 +183,7 @@ class Adapter:
                 self.comparisons.leave()
                 # What is kept of a branch goes behind what a gate that was restored is told of it again.
                 untold = (self.outbox.get("untold") or {"homes": []})["homes"]
-                held = {str(change) for it in untold for change in self.changes.of_home(tuple(it))}
+                held = {str(change) for it in untold for change in self.changes.of_home((it[0], it[1]))}
                 self.outbox.send(self.gate, self.answered, self.settings.pause, self.comparisons.leave, held)
                 if not self.file.is_known:
                     self.file.ask()
@@ -208,7 +206,7 @@ class Adapter:
             if is_early or place in done or place.repository in untold:
                 continue
             done.add(place)
-            fault = self.attempt(name, lambda it=place: self.looks.look(it))
+            fault = self.attempt(name, partial(self.looks.look, place))
             if fault is None:
                 self.comparisons.looked(place)
                 if self.hints.drop(row):
@@ -301,16 +299,16 @@ class Adapter:
         that can't be read holds up its own repository."""
         untold = self.outbox.get("untold")
         for home in [] if untold is None else untold["homes"]:
-            project, name = self.looks.projects.get(tuple(home)), " ".join(home)
+            project, name = self.looks.projects.get((home[0], home[1])), " ".join(home)
             if project is not None:
                 if self.rests.is_resting(name, self.now):
                     continue
-                fault = self.attempt(name, lambda it=project: self.looks.note_landings(it))
+                fault = self.attempt(name, partial(self.looks.note_landings, project))
                 self.rest(name, fault)
                 if fault is not None:
                     continue
             with self.changes.step():
-                self.changes.tell_again(known=untold["known"], home=tuple(home))
+                self.changes.tell_again(known=untold["known"], home=(home[0], home[1]))
                 left = [it for it in self.outbox.get("untold")["homes"] if it != home]
                 self.outbox.put("untold", {**untold, "homes": left} if left else None)
 
@@ -359,7 +357,7 @@ def run(settings: Settings) -> int:
     if it is None:
         say("adapter", "stops: the settings have no table [adapter]")
         return 1
-    adapter, came = Adapter(settings, FORMS[it.form](it.url, it.token, it.secret)), threading.Event()
+    adapter, came = Adapter(settings, CLIENTS[it.form](it.url, it.token, it.secret)), threading.Event()
     try:
         hooks = Hooks((it.host, it.port), adapter.hints, adapter.forge, names_of(settings), came,
                       settings.folder / "adapter")

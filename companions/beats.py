@@ -78,12 +78,14 @@ class Voice:
     at: float
 
 
+K = TypeVar("K")
 T = TypeVar("T")
 
 
-def put_last(known: dict[Any, T], key: Any, value: T) -> None:
+def put_last(known: dict[K, T], key: K, value: T) -> None:
     """Puts an entry at the end, and drops the first one where there are too many."""
-    known.pop(key, None)
+    if key in known:
+        del known[key]
     known[key] = value
     if len(known) > MOST:
         known.pop(next(iter(known)))

@@ -6,8 +6,9 @@ is set right from the branches, which nobody else may push to: whoever may push 
 from __future__ import annotations
 
 import time
-from collections.abc import Mapping
+from collections.abc import Mapping, Sequence
 from concurrent.futures import ThreadPoolExecutor
+from typing import Any
 
 from companions.gate import say
 from companions.landings import (Branch, Landed, Landing, Line, Note, first_name, first_text, in_order, lines_of,
@@ -115,7 +116,7 @@ class Branches:
             project, commit, *_, note = self.notes.get(self.row(place))
             repository = self.repositories[project]
             landing = Landing.read(repository.message(commit))
-            known = Note.read(text_of(repository, note)).first or (landing and landing.first)
+            known = Note.read(text_of(repository, note)).first or (landing.first if landing else None)
             if known is not None:
                 self.notes.put(f"file {self.queue}", known)
                 break
@@ -145,7 +146,7 @@ class Branches:
         listed = repository.git("for-each-ref", "--format=%(objectname) %(*objectname)", folder)
         return {it: commit or it for it, _, commit in (line.partition(" ") for line in listed.splitlines())}
 
-    def right(self, project: str, place: int, row: list, there: str | None, peeled: Mapping[str, str]) -> str:
+    def right(self, project: str, place: int, row: list[Any], there: str | None, peeled: Mapping[str, str]) -> str:
         """The object that a landing's note has to name: the one that it did, or else one that is at its commit."""
         repository, commit, note = self.repositories[project], row[1], row[5]
         if note is not None and (note == there or repository.commit(note) == commit):
@@ -210,6 +211,6 @@ class Branches:
         self.keep(landed.place, {**known["heads"], landed.project: landed.commit}, {*self.landed, landed.project})
 
 
-def cut(them: list) -> str:
+def cut(them: Sequence[object]) -> str:
     """The first ones of a list as a text."""
     return ", ".join(map(str, them[:3])) + (f" and {len(them) - 3} more" if len(them) > 3 else "")

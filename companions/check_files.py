@@ -10,7 +10,8 @@ from dataclasses import dataclass
 from pathlib import Path
 from typing import Any
 
-from companions.settings import Project, Settings, SettingsFault, read
+from companions.reader import SettingsFault
+from companions.settings import Project, Settings, read
 
 # The gate's program, which has the last word about its settings, where it is installed.
 PROGRAM = Path("/usr/local/bin/gated")
@@ -87,8 +88,9 @@ def compare(files: Files) -> Iterator[str]:
         for settings in files.all:
             yield from of_gate(files.gate, settings)
             yield from of_jobs(files.gate, settings, settings is not files.companions or not files.workers)
-    for settings in files.workers if files.companions is not None else ():
-        yield from of_workers(files.companions, settings)
+    if files.companions is not None:
+        for settings in files.workers:
+            yield from of_workers(files.companions, settings)
 
 
 def of_adapter(gate: GateFile, companions: Settings | None) -> Iterator[str]:

@@ -10,12 +10,14 @@ from companions.check_files import Files
 from companions.gate import Gate, NoAnswer
 from companions.settings import Settings
 
+Needs = dict[str, tuple[tuple[str, str], ...]]
 # What each role has to be answered, and what it is for.
-NEEDS = {"forge": (("/orders", "adapter and lander"), ("/deliveries", "adapter and lander")),
-         "people": (("/status", "the watch"), ("/running", "the watch")),
-         "standby": (("/deliveries", "the watch"),), "worker": (("/builds/1", "the watch"), ("/changes/1", "workers"))}
+NEEDS: Needs = {
+    "forge": (("/orders", "adapter and lander"), ("/deliveries", "adapter and lander")),
+    "people": (("/status", "the watch"), ("/running", "the watch")),
+    "standby": (("/deliveries", "the watch"),), "worker": (("/builds/1", "the watch"), ("/changes/1", "workers"))}
 # Of a worker's file only that account counts.
-OF_WORKERS = {"worker": (("/builds/1", "workers"), ("/changes/1", "workers"))}
+OF_WORKERS: Needs = {"worker": (("/builds/1", "workers"), ("/changes/1", "workers"))}
 SECONDS = 20.0
 
 
@@ -27,7 +29,7 @@ def look(files: Files) -> Iterator[str]:
         yield from of_queues(files.companions, files.gate.queues)
 
 
-def of_file(settings: Settings, needs: dict[str, tuple[tuple[str, str], ...]]) -> Iterator[str]:
+def of_file(settings: Settings, needs: Needs) -> Iterator[str]:
     is_heard = False
     for role, paths in needs.items():
         gate = Gate(settings.url, settings.account(role), SECONDS)

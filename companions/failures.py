@@ -13,8 +13,9 @@ from typing import Any
 from companions.conflicts import Cause, Conflict
 from companions.gate import Gate, NoAnswer, expected
 from companions.outbox import Notes
+from companions.reader import SettingsFault
 from companions.repository import GitFault
-from companions.settings import Settings, SettingsFault
+from companions.settings import Settings
 from companions.trees import Trees, build_of
 
 # How long a build rests whose merge couldn't be made, in seconds, and how many are made in one look.

@@ -9,16 +9,18 @@ import shutil
 import sqlite3
 import subprocess
 import tempfile
+from collections.abc import Callable
 from dataclasses import asdict, dataclass
 from pathlib import Path
 from typing import Any
 
 from companions import settings
 from companions.job import NoSandbox
+from companions.reader import SettingsFault
 from companions.repository import GitFault
 from companions.room import Room
 from companions.sandbox import ENVIRONMENT, Sandbox, tried
-from companions.settings import Settings, SettingsFault
+from companions.settings import Settings
 from companions.trees import Build, Trees, Unreadable, Unset
 
 # What a machine may do to a build, and what may be wrong with the settings.
@@ -80,8 +82,9 @@ class Looks:
     def look(self, fault: Fault) -> str | None:
         """What is still wrong, or none where it is over. `OtherSettings` where the worker has to read its settings
         again for that."""
-        looks = {DISK: self.disk, TOOL: self.tool, REPOSITORY: self.repository, SANDBOX: self.sandbox,
-                 SETTINGS: self.settings}
+        looks: dict[str, Callable[..., str | None]] = {
+            DISK: self.disk, TOOL: self.tool, REPOSITORY: self.repository, SANDBOX: self.sandbox,
+            SETTINGS: self.settings}
         return looks[fault.kind](*fault.about)
 
     def disk(self) -> str | None:

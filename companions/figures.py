@@ -78,11 +78,12 @@ def counted(counts: Mapping[str, Any], most: Sequence[int]) -> str:
                  for bound, number in zip(bounds, [*it["buckets"], it["count"]])]
         rows += [f'_sum{{queue="{queue}"}} {it["sum"]:g}', f'_count{{queue="{queue}"}} {it["count"]}']
     return "".join((
-        block("items_left_total", "counter", "Items that left the queue, by what became of them.", by("left", "verdict")),
+        block("items_left_total", "counter", "Items that left the queue, by what became of them.",
+              by("left", "verdict")),
         block("jobs_failed_total", "counter", "Items that left as failed, by each job of theirs that failed.",
               by("failed", "job")),
-        block("builds_discarded_total", "counter", "Builds of items that left which didn't count, since what they ran on"
-              " didn't come true.", by("discarded", "job")),
+        block("builds_discarded_total", "counter", "Builds of items that left which didn't count, since what they ran"
+              " on didn't come true.", by("discarded", "job")),
         block("window_shrinks_total", "counter", "Looks at which the window was smaller than at the look before.",
               [f'{{queue="{queue}"}} {number}' for queue, number in sorted(counts["shrank"].items())]),
         block(took, "histogram", "Seconds from approval to landing, as the watch saw them.", rows)))

@@ -129,8 +129,10 @@ class Gate:
 
     def json(self, path: str) -> Any:
         content = self.get(path)
+        if content is None:
+            return None
         try:
-            return None if content is None else json.loads(content)
+            return json.loads(content)
         except ValueError as fault:
             raise NoAnswer(f"GET {path}: no JSON, {content[:100]!r}") from fault
 
@@ -150,10 +152,12 @@ class Gate:
                     for it in self.json("/orders")]
 
     def build(self, number: int) -> dict[str, Any] | None:
-        return self.json(f"/builds/{number}")
+        said: dict[str, Any] | None = self.json(f"/builds/{number}")
+        return said
 
     def change(self, number: int) -> dict[str, Any] | None:
-        return self.json(f"/changes/{number}")
+        said: dict[str, Any] | None = self.json(f"/changes/{number}")
+        return said
 
     def running(self) -> list[dict[str, Any]]:
         """The builds that run, at most the first 1,000 of them."""

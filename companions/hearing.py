@@ -1,20 +1,20 @@
 """Where the beats of workers come in, behind the proxy, which knows who is a worker."""
 from __future__ import annotations
 
-import http.server
 import threading
 from collections.abc import Callable
 from typing import Any
 
 from companions.beats import LARGEST, PATH, Heard, beat_of
-from companions.hooks import Handler as Bounded
+from companions.hooks import Connection, Server
 
 # The seconds that a connection may take in all, and how many there are at once.
 PATIENCE, MOST = 5.0, 64
 
 
-class Handler(Bounded):
+class Handler(Connection):
     """One connection, for one beat."""
+    server: Door
     timeout = PATIENCE
 
     def do_POST(self) -> None:
@@ -40,7 +40,7 @@ class Handler(Bounded):
         self.answer(404, f"beats are posted to {PATH}")
 
 
-class Door(http.server.ThreadingHTTPServer):
+class Door(Server):
     """The server. One more connection than there may be is ended at once: its worker beats again."""
     daemon_threads = True
     patience = PATIENCE

@@ -12,7 +12,7 @@ from pathlib import Path
 from typing import IO, Any, BinaryIO
 
 from companions.api import LARGEST
-from companions.forges import Forge, Place, Seal
+from companions.forges import Forge, Headers, Place, Seal
 from companions.gate import say
 from companions.outbox import Notes
 from companions.tables import add
@@ -25,7 +25,7 @@ CREATE TABLE IF NOT EXISTS hint(row INTEGER PRIMARY KEY AUTOINCREMENT, repositor
 
 # The path of hooks, and the seconds that a connection may take, from its first byte to its last one.
 PATH = "/hook"
-PATIENCE = 30
+PATIENCE = 30.0
 # The seconds between two lines about hooks that weren't taken.
 MINUTE = 60.0
 # So many connections are there at once, and so many of them may have a body of more than so many bytes.
@@ -87,9 +87,14 @@ class NotTaken:
         say(self.part, said)
 
 
-class Handler(http.server.BaseHTTPRequestHandler):
-    """One connection, for one hook."""
-    server: Hooks
+class Server(http.server.ThreadingHTTPServer):
+    """A server that gives a connection so many seconds."""
+    patience: float
+
+
+class Connection(http.server.BaseHTTPRequestHandler):
+    """One connection, for one request."""
+    server: Server
     timeout = PATIENCE
 
     def setup(self) -> None:
@@ -106,6 +111,25 @@ class Handler(http.server.BaseHTTPRequestHandler):
     def finish(self) -> None:
         self.timer.cancel()
         super().finish()
+
+    def answer(self, status: int, said: str) -> None:
+        """Answers, and ends the connection: bytes that weren't read would be taken for the next request."""
+        content = (said + "\n").encode()
+        self.close_connection = True
+        self.send_response(status)
+        self.send_header("Content-Type", "text/plain; charset=utf-8")
+        self.send_header("Content-Length", str(len(content)))
+        self.send_header("Connection", "close")
+        self.end_headers()
+        self.wfile.write(content)
+
+    def log_message(self, *_: object) -> None:
+        """What is worth a line is said by `Hooks`."""
+
+
+class Handler(Connection):
+    """One connection, for one hook."""
+    server: Hooks
 
     def do_POST(self) -> None:
         if self.path.partition("?")[0] != PATH:
@@ -125,27 +149,13 @@ class Handler(http.server.BaseHTTPRequestHandler):
     def do_GET(self) -> None:
         self.answer(404, "hooks are posted to " + PATH)
 
-    def answer(self, status: int, said: str) -> None:
-        """Answers, and ends the connection: bytes that weren't read would be taken for the next request."""
-        content = (said + "\n").encode()
-        self.close_connection = True
-        self.send_response(status)
-        self.send_header("Content-Type", "text/plain; charset=utf-8")
-        self.send_header("Content-Length", str(len(content)))
-        self.send_header("Connection", "close")
-        self.end_headers()
-        self.wfile.write(content)
 
-    def log_message(self, *_: object) -> None:
-        """What is worth a line is said by `Hooks`."""
-
-
-class Hooks(http.server.ThreadingHTTPServer):
+class Hooks(Server):
     """The server. `names` has the gated repositories' names, each by itself in small letters: a forge may write it in
     others. `came` is set once a place was noted. Large bodies come to files in `folder`, until they are found to be
     signed: anybody may send some."""
     daemon_threads = True
-    patience = float(PATIENCE)
+    patience = PATIENCE
 
     def __init__(self, address: tuple[str, int], hints: Hints, forge: Forge, names: Mapping[str, str],
                  came: threading.Event, folder: Path | None = None) -> None:
@@ -168,7 +178,7 @@ class Hooks(http.server.ThreadingHTTPServer):
         finally:
             self.places.release()
 
-    def take_large(self, headers: Any, incoming: BinaryIO, length: int) -> tuple[int, str]:
+    def take_large(self, headers: Headers, incoming: BinaryIO, length: int) -> tuple[int, str]:
         """The answer to a hook whose body is large, and perhaps an enemy's: read once it is found to be signed."""
         try:
             seal = self.forge.seal_of(headers)
@@ -190,7 +200,7 @@ class Hooks(http.server.ThreadingHTTPServer):
         finally:
             self.large.release()
 
-    def take_file(self, headers: Any, file: IO[bytes], seal: Seal) -> tuple[int, str]:
+    def take_file(self, headers: Headers, file: IO[bytes], seal: Seal) -> tuple[int, str]:
         """The answer to a hook whose body is in a file."""
         try:
             seal.check()
@@ -203,7 +213,7 @@ class Hooks(http.server.ThreadingHTTPServer):
         self.not_taken.add(f"a hook was refused: {fault}")
         return 403, str(fault)
 
-    def take(self, headers, body: bytes) -> tuple[int, str]:
+    def take(self, headers: Headers, body: bytes) -> tuple[int, str]:
         """The answer to a hook, given once its place is on disk: a forge that got 200 sends it never again."""
         try:
             place = self.forge.place_of(headers, body)

@@ -10,6 +10,7 @@ import sys
 import time
 from collections.abc import Callable
 from concurrent.futures import Future, ThreadPoolExecutor
+from functools import partial
 from typing import Any
 
 from companions.answers import Answers
@@ -260,7 +261,7 @@ class Lander:
         if queue is None:
             self.tell(order.queue, f"order {order.order} is of project {order.project}, which the settings don't have")
         else:
-            self.start(order.queue, lambda: queue.carry_out(order))
+            self.start(order.queue, partial(queue.carry_out, order))
 
     def start(self, queue: str, task: Callable[[], None]) -> None:
         """Has a task done for a queue, unless one is being done, or the queue rests."""

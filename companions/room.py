@@ -33,8 +33,8 @@ class Room:
         for words in (["chmod", "-R", "u+rwx"], ["du", "--summarize", "--block-size=1"]):
             ran = subprocess.run([*words, "--", str(self.folder)], stdin=subprocess.DEVNULL, capture_output=True,
                                  check=False)
-        words = ran.stdout.split()
-        return int(words[0]) if words else 0
+        used = ran.stdout.split()
+        return int(used[0]) if used else 0
 
 
 class Guard:

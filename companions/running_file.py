@@ -1,4 +1,7 @@
-"""Since when builds run, for the page for people: the gate has no clock, and a page sees only what begins while it is open."""
+"""Since when builds run, for the page for people.
+
+The gate has no clock, and a page sees only what begins while it is open.
+"""
 from __future__ import annotations
 
 import json

@@ -20,8 +20,9 @@ OWN = re.compile(r"(?:[0-9a-f]{40}|[0-9a-f]{64})-[1-9][0-9]{0,17}")
 class Run:
     """A run. `jobs` are those that have or had a build in it, and `others` the commits of other projects that are on no
     branch. `status` and `run` are the highest numbers that the forge had before the push, none before they were asked
-    for. `is_tried`: the push was begun. `pushed` is when it was done, and `came` when each name was seen first, by the
-    machine's uptime in its boot. `is_over`: no build is in it any more; `cancels`: what still runs of it is of no use.
+    for, and `checks` those of the check runs of each App. `is_tried`: the push was begun. `pushed` is when it was done,
+    and `came` when each name was seen first, by the machine's uptime in its boot. `is_over`: no build is in it any
+    more; `cancels`: what still runs of it is of no use.
     """
     serial: int
     queue: str
@@ -32,6 +33,7 @@ class Run:
     jobs: list[str] = field(default_factory=list)
     status: int | None = None
     run: int = 0
+    checks: dict[str, int] = field(default_factory=dict)
     is_tried: bool = False
     boot: str = ""
     pushed: float | None = None
@@ -107,22 +109,26 @@ class Runs:
     def push(self, run: Run) -> None:
         """Pushes a run, its other projects first. `GitFault` where that can't be done now.
 
-        What is there under its names is deleted first, so that a CI sees a push; but a push of its own whose end wasn't
-        seen stays.
+        A branch that is there is deleted first: to git one at this very commit is pushed already, and no CI would hear
+        of it. But a push of its own whose end wasn't seen stays.
         """
         for project, commit in run.others.items():
-            self.renew(project, run.other, commit, is_own=run.is_tried)
-        was_tried, run.is_tried = run.is_tried, True
-        self.note(run)
-        self.renew(run.project, run.branch, run.commit, is_own=was_tried)
+            self.renew(project, run.other, commit)
+        there = self.repositories[run.project].listed(run.branch).get(run.branch)
+        if not run.is_tried or there != run.commit:
+            if there is not None:
+                self.remove(run.project, run.branch)
+            run.is_tried = True
+            self.note(run)
+            self.renew(run.project, run.branch, run.commit)
         now = Moment.now()
         run.boot, run.pushed = now.boot, now.uptime
         self.note(run)
 
-    def renew(self, project: str, name: str, commit: str, is_own: bool) -> None:
-        """Pushes a name that isn't there afterwards but as a new one."""
+    def renew(self, project: str, name: str, commit: str) -> None:
+        """Pushes a name, in the place of what it is there."""
         repository = self.repositories[project]
-        if repository.push({name: (None, commit)}) or is_own and repository.listed(name).get(name) == commit:
+        if repository.push({name: (None, commit)}):
             return
         self.remove(project, name)
         if not repository.push({name: (None, commit)}):
@@ -162,4 +168,3 @@ class Runs:
 def others_on_no_branch(commits: Mapping[str, str], heads: Mapping[str, str], project: str) -> dict[str, str]:
     """The commits of the other projects that a build merges, and no branch has yet."""
     return {name: it for name, it in commits.items() if name != project and heads.get(name) != it}
-

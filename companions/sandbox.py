@@ -74,12 +74,14 @@ class Sandbox:
     def check(self) -> None:
         for it in (*self.read, *self.write):
             real = os.path.realpath(it)
-            if is_below(real, [str(self.folder)]) or any(is_below(str(own), [real]) for own in (self.folder, self.file)):
+            holds = any(is_below(str(own), [real]) for own in (self.folder, self.file))
+            if is_below(real, [str(self.folder)]) or holds:
                 raise OSError(f"{it} leads to the settings or the folder of the companions: no job may have it")
 
     def hidden(self) -> list[str]:
         """The folders of the machine in whose place there is an empty one: none of them within another one."""
-        named = [str(self.folder), *([str(self.logs)] if self.logs is not None else []), *(it for pattern in HIDDEN for it in glob.glob(pattern)), *homes()]
+        logs = [str(self.logs)] if self.logs is not None else []
+        named = [str(self.folder), *logs, *(it for pattern in HIDDEN for it in glob.glob(pattern)), *homes()]
         found: list[str] = []
         for it in sorted({os.path.realpath(it) for it in named if os.path.isdir(it)}):
             if it != "/" and not is_below(it, [*found, *OWN.values()]):

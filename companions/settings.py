@@ -112,8 +112,8 @@ class Settings:
     `has_adapter`: the lander lands only what an adapter has compared. `tries` is how often it tries what is refused.
     `file` is where they were read, which no job may read. Without `sandbox` jobs run as the worker does. A job is
     killed once less than `free` bytes are left, and is at fault where it has written more than `space`. A worker whose
-    machine is at fault keeps its build for `patience`. Logs of builds are in `logs`, or with each worker. Files of trees are had by these `filters` of git. A watch
-    without `hearing` hears no workers.
+    machine is at fault keeps its build for `patience`. Logs of builds are in `logs`, or with each worker. Files of
+    trees are had by these `filters` of git. A watch without `hearing` hears no workers.
     """
     url: str
     accounts: dict[str, Account]
@@ -178,9 +178,12 @@ class Settings:
 
 
 AUTHOR = re.compile(r"[^<>\x00-\x20\x7f](?:[^<>\x00-\x1f\x7f]*[^<>\x00-\x20\x7f])? <[^<>\x00-\x20\x7f]+>")
-PASSWORD = re.compile(r"[a-z][a-z0-9+.-]*://[^/?#@]*:[^/?#]*@", re.IGNORECASE)
+# A password in an address, or a token in the place of a user's name, by how forges begin tokens or how long they are.
+PASSWORD = re.compile(r"[a-z][a-z0-9+.-]*://(?:[^/?#@]*:[^/?#]*"
+                      r"|(?:gh[opsur]_|github_pat_|gl[a-z]{2,5}-|[0-9a-f]{40})[^/?#@]*)@", re.IGNORECASE)
 FILTERS = frozenset({"lfs"})
 ROLES = ("forge", "worker", "people", "standby")
+# The forms of forge; forms.py has the client of each.
 FORMS = ("gitea", "github", "gitlab")
 LANDS = ("merge", "squash")
 
@@ -258,7 +261,8 @@ def adapter_of(top: Reader) -> Adapter | None:
                       table.seconds("look", 5.0), table.seconds("quiet", 60.0),
                       table.address("logs") if "logs" in table.table else None,
                       table.seconds("blind", max(BLIND, 3 * compare)),
-                      *(Path(table.text(it)) if it in table.table else None for it in ("copies", "page")),
+                      Path(table.text("copies")) if "copies" in table.table else None,
+                      Path(table.text("page")) if "page" in table.table else None,
                       table.seconds("reading", READING), table.seconds("keep", KEEP),
                       table.text("tell") if "tell" in table.table else None,
                       tuple(sorted(table.names("require") or ())))

@@ -58,7 +58,7 @@ LACKING = ("E5", "E6", "E7")
 
 def is_of(said: Delivery, revision: int) -> bool:
     """Whether a delivery tells this revision."""
-    return said["kind"] == "revision" and said["revision"] == revision
+    return bool(said["kind"] == "revision" and said["revision"] == revision)
 
 
 class Changes:
@@ -137,7 +137,7 @@ class Changes:
         if first is None or told is None:
             return False
         named = named_as(revisions[-1].commit, self.tag(change, last))
-        return told != revision_id(first, change, last, named, revisions[-1].needs)
+        return bool(told != revision_id(first, change, last, named, revisions[-1].needs))
 
     def first(self) -> str | None:
         """The id of the first delivery that the gate has accepted, as far as that is known."""
@@ -188,7 +188,7 @@ class Changes:
         self.tables.execute("UPDATE revision SET tag = NULL WHERE change = ? AND NOT EXISTS (SELECT 1 FROM vote"
                             " WHERE told_change = revision.change AND told_revision = revision.number)", (change,))
 
-    def mark(self, so: Request, name: str, change: int, telling: Telling) -> None:
+    def mark(self, so: Request | Place, name: str, change: int, telling: Telling) -> None:
         """Notes that a vote was told, as an approval or as one that was taken back."""
         set_to = ("told_change = ?, told_revision = ?", (change, telling.revision)) if telling.kind == "approved" else (
             "taken_back = 1", ())
@@ -302,7 +302,9 @@ class Changes:
         numbers = [row[0] for row in rows]
 
         def row_of(number: int) -> tuple[str, int]:
-            return self.tables.execute("SELECT id, replies FROM telling WHERE reply = ?", (number,)).fetchone()
+            row: tuple[str, int] = self.tables.execute("SELECT id, replies FROM telling WHERE reply = ?",
+                                                       (number,)).fetchone()
+            return row
 
         at = bisect.bisect_left(numbers, True, key=lambda it: not knows(row_of(it)[0]))
         return row_of(numbers[at - 1])[1] if at else 0

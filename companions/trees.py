@@ -20,8 +20,9 @@ from companions.landings import Branch, Line, author_of, first_name, in_order, l
 from companions.lfs import LargeFiles
 from companions.merging import Merge
 from companions.outbox import Notes
+from companions.reader import SettingsFault
 from companions.repository import REVISION, GitFault, Repository
-from companions.settings import Settings, SettingsFault
+from companions.settings import Settings
 
 # So many revisions' names are kept in a mirror.
 KEPT = 500

@@ -257,7 +257,7 @@ class Watch:
                 say(PART, f"{queue}: no project of the settings has a job {job}, so its builds aren't reported as lost")
             self.unlimited.add((queue, job))
             return False
-        return now - self.noted["builds"][key_of(build)] > limit + self.settings.grace
+        return bool(now - self.noted["builds"][key_of(build)] > limit + self.settings.grace)
 
     def report(self, build: Build, now: float) -> None:
         """Reports a build as lost, if it is still that build of that file, and runs, and is wanted, and no beat of it

@@ -9,7 +9,7 @@ import shutil
 import tempfile
 import unittest
 import uuid
-from collections.abc import Mapping
+from collections.abc import Callable
 from dataclasses import replace
 from datetime import timedelta
 from pathlib import Path
@@ -17,7 +17,7 @@ from typing import Any
 
 from companions.adapter import Adapter
 from companions.api import ForgeFault
-from companions.forges import Listed, Place, Word
+from companions.forges import Headers, Listed, Place, Word
 from companions.requests import Request, State, Vote
 from companions.settings import read
 from companions.tests.forge import Origin
@@ -159,7 +159,7 @@ class Forge(PretendForge):
         self.requests: dict[Place, Request] = {}
         self.broken: set[Place] = set()
         self.asked: list[Place] = []
-        self.when_asked = lambda place: None
+        self.when_asked: Callable[[Place], object] = lambda place: None
         self.writers, self.hidden = {"ada", "bob"}, set[str]()
         self.accounts = {"ada": 11, "bob": 12}
         self.asked_about: list[str] = []
@@ -176,10 +176,10 @@ class Forge(PretendForge):
             raise ForgeFault(f"GET {login}: 500")
         return self.accounts.get(login.casefold())
 
-    def seal_of(self, headers: Mapping[str, str]) -> Word:
+    def seal_of(self, headers: Headers) -> Word:
         return Word("secret", headers.get("Secret"))
 
-    def place_of(self, headers: Mapping[str, str], body: bytes) -> Place | None:
+    def place_of(self, headers: Headers, body: bytes) -> Place | None:
         self.seal_of(headers)
         said = json.loads(body)
         return Place(*said) if said else None

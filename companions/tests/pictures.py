@@ -62,7 +62,8 @@ class Pictures(PageTest):
         self.take(None)
         build = self.take(None)
         now = round(time.time())
-        (self.folder / "page" / "running.json").write_text(json.dumps({"builds": {build - 1: now - 412, build: now - 95}}))
+        running = json.dumps({"builds": {build - 1: now - 412, build: now - 95}})
+        (self.folder / "page" / "running.json").write_text(running)
         self.say({
             90: self.request(90, "app", "**Landed in `core` as 1.**", order=1),
             91: self.request(91, "app", "**Left `core`: its tests failed.**", order=2),
@@ -70,15 +71,18 @@ class Pictures(PageTest):
             102: self.request(102, "app", "**Being tested in `core`.**", "`unit` running.",
                               "If you push a new commit, it leaves the queue and has to be approved again."),
             103: self.request(103, "app", "**Queued in `core`.**", needs=[102]),
-            104: self.request(104, "app", "**Queued in `core`.**"), 105: self.request(105, "app", "**Queued in `core`.**"),
-            106: self.request(106, "lib", "**Queued in `core`.**"), 302: self.request(302, "site", "**Queued in `web`.**"),
-            301: self.request(301, "site", "**Approved, and waits to enter `web`.** acme/app#12 stands in the queue `core`:"
-                              " wait until it has landed.", needs=[102])})
+            104: self.request(104, "app", "**Queued in `core`.**"),
+            105: self.request(105, "app", "**Queued in `core`.**"),
+            106: self.request(106, "lib", "**Queued in `core`.**"),
+            302: self.request(302, "site", "**Queued in `web`.**"),
+            301: self.request(301, "site", "**Approved, and waits to enter `web`.** acme/app#12 stands in the queue"
+                              " `core`: wait until it has landed.", needs=[102])})
         return build
 
     def shoot(self, name: str, width: int, height: int, scheme: str, until: str) -> None:
         self.browser.tell("Emulation.setEmulatedMedia", features=[{"name": "prefers-color-scheme", "value": scheme}])
-        self.browser.tell("Emulation.setDeviceMetricsOverride", width=width, height=height, deviceScaleFactor=1, mobile=False)
+        self.browser.tell("Emulation.setDeviceMetricsOverride", width=width, height=height, deviceScaleFactor=1,
+                          mobile=False)
         self.browser.wait(lambda: until in " ".join(self.browser.text("#view")))
         self.browser.run("document.activeElement.blur()")
         file = PICTURES / f"{name}.png"

@@ -1,4 +1,4 @@
-"""What the tests of companions/service share: gates over files in a folder, and the scripts that are run beside them."""
+"""What the tests of companions/service share: gates over files in a folder, and the scripts that run beside them."""
 from __future__ import annotations
 
 import contextlib

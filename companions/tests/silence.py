@@ -1,4 +1,4 @@
-"""What a client does to a gate that connects and says nothing: run in a network namespace of its own, by test_silent.py.
+"""What a client does to a gate that connects and says nothing: run in a network namespace of its own by test_silent.
 
     python3 -m companions.tests.silence FOLDER RULES
 
@@ -64,7 +64,8 @@ def start_proxy(folder: Path) -> subprocess.Popen[bytes]:
 def ask(folder: Path, seconds: int) -> bool:
     """Whether the gate's status comes by the proxy within a time."""
     asked = subprocess.run(["curl", "--silent", "--max-time", str(seconds), "--cacert", folder / "proxy" / "gate.crt",
-                            "--user", f"{FOLLOWER}:{PASSWORD}", f"https://127.0.0.1:{PROXY_PORT}/status"], capture_output=True, text=True, check=False)
+                            "--user", f"{FOLLOWER}:{PASSWORD}", f"https://127.0.0.1:{PROXY_PORT}/status"],
+                           capture_output=True, text=True, check=False)
     return asked.stdout.endswith("end\n")
 
 
@@ -84,9 +85,10 @@ def main(folder: Path, rules: str) -> None:
         silent.communicate("")
         said["after"] = ask(folder, LONG)
     finally:
-        for it in (proxy, gate):
-            it.terminate()
-            it.wait()
+        proxy.terminate()
+        proxy.wait()
+        gate.terminate()
+        gate.wait()
     print(json.dumps(said))
 
 

@@ -13,12 +13,14 @@ Answers = Callable[[str, str, bytes], tuple[int, Any] | None]
 
 
 class StandIn:
-    """Use it by `with`; `url` is its address, `asked` what came, in order, and `answers` may be put in its place."""
+    """Use it by `with`; `url` is its address, `asked` what came, in order, and `answers` may be put in its place. Each
+    answer has the fields `more` in its head."""
 
     def __init__(self, answers: Answers) -> None:
         self.answers = answers
         self.asked: list[tuple[str, str, bytes]] = []
         self.heads: list[dict[str, str]] = []
+        self.more: dict[str, str] = {}
         self.lock = threading.Lock()
         self.server = ThreadingHTTPServer(("127.0.0.1", 0), handler_of(self))
         self.server.daemon_threads = True
@@ -56,6 +58,8 @@ def handler_of(standin: StandIn) -> type[BaseHTTPRequestHandler]:
             self.send_response(status)
             self.send_header("Content-Length", str(len(content)))
             self.send_header("Connection", "close")
+            for name, value in standin.more.items():
+                self.send_header(name, value)
             self.end_headers()
             self.wfile.write(content)
 

@@ -101,7 +101,7 @@ class AdapterTest(unittest.TestCase):
 
     def send(self) -> bool:
         with contextlib.redirect_stdout(io.StringIO()):
-            return self.adapter.send()
+            return bool(self.adapter.send())
 
     def test_tells_what_a_hook_has_lost(self) -> None:
         self.push(7, 1)

@@ -1,7 +1,9 @@
 """The adapter: looks at requests, and what the gate is told then."""
 from __future__ import annotations
 
+import itertools
 import re
+import threading
 import time
 from dataclasses import replace
 from unittest import mock
@@ -70,6 +72,23 @@ class Requests(Case):
         self.forge.broken.clear()
         self.adapter.once(300.0)
         self.assertEqual((self.adapter.rests.times("acme/lib 12"), len(self.standin.deliveries())), (0, 1))
+
+    def test_rests_go_by_a_clock_that_nobody_sets(self) -> None:
+        """Three days ahead and 4,000 seconds back, from round to round."""
+        days, rounds, end = itertools.cycle((0.0, 3 * 86400.0, -4000.0)), list[float](), time.monotonic() + 3600
+
+        def once(now: float) -> None:
+            rounds.append(now)
+            if len(rounds) == 6:
+                raise StopIteration
+
+        self.adapter.settings = replace(self.settings, pause=0.001)
+        begin, day = time.monotonic(), time.time()
+        with (mock.patch.object(self.adapter, "once", once), mock.patch("time.time", lambda: day + next(days)),
+              self.assertRaises(StopIteration)):
+            self.adapter.run(threading.Event())
+        self.assertEqual(rounds, sorted(rounds))
+        self.assertTrue(begin <= rounds[0] and rounds[-1] < end)
 
     def test_what_a_lagging_copy_of_the_forge_has_hidden_is_seen_soon(self) -> None:
         place = self.be(12, 0)

@@ -33,7 +33,7 @@ class Files(Case):
     def test_a_new_file_is_told_anew_and_needs_new_votes(self) -> None:
         place = self.be(12, 0, self.approve(1))
         self.look()
-        self.gate.__init__()
+        self.gate.__init__()  # type: ignore[misc]
         self.start()
         self.assertEqual((self.look(), self.look()), (["revision 1 2"], []))
         self.be(12, 0, self.approve(1), self.approve(2))

@@ -4,6 +4,7 @@ from __future__ import annotations
 from dataclasses import replace
 from unittest import mock
 
+from companions.forges import Limits
 from companions.moments import Moment
 from companions.requests import State, Vote
 from companions.rights import MANY
@@ -49,6 +50,14 @@ class People(Case):
         self.tell()
         lines.append("eve isn't among those who may approve: review 10 doesn't count")
         self.assertEqual(self.adapter.changes.remarks(1, "vote"), lines)
+
+    def test_no_more_is_written_in_an_hour_than_the_forge_s_form_allows(self) -> None:
+        """A tenth of it is for requests that somebody has approved."""
+        self.forge.limits = Limits(60, 4)
+        self.start()
+        for number, head in ((12, 0), (13, 1), (14, 2), (15, 3)):
+            self.be(number, head)
+        self.assertEqual([len(self.tell()) for _ in range(3)], [3, 0, 0])
 
     def test_one_that_is_closed_is_told_once_the_gate_has_answered(self) -> None:
         # Others are asked about first.
@@ -121,6 +130,17 @@ class People(Case):
             self.settings = replace(self.settings, adapter=replace(self.settings.adapter, approvers=frozenset(names)))
             self.start()
             self.assertEqual(self.look(place), told)
+
+    def test_accounts_are_looked_up_at_the_start_and_not_once_somebody_votes(self) -> None:
+        self.adapter.compare_at = 9.0
+        self.adapter.once(1.0)
+        self.assertEqual(sorted(self.forge.asked_about), ["ada", "bob"])
+        # Somebody else takes the login before its person has ever voted.
+        self.forge.accounts["ada"] = 77
+        self.be(12, 0, self.approve(1), self.approve(2, person="bob"))
+        self.assertEqual(self.look(), ["revision 1 1", "approved 1 1"])
+        self.assertEqual(self.adapter.changes.remarks(1, "vote"),
+                         ["ada isn't among those who may approve: review 1 doesn't count"])
 
     def test_approvals_wait_for_accounts_that_the_forge_does_not_tell(self) -> None:
         self.forge.hidden = {"ada"}

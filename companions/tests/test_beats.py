@@ -10,14 +10,18 @@ import unittest
 import uuid
 from pathlib import Path
 from typing import Any
+from unittest import mock
 
+from companions.beating import Beating
 from companions.beats import HIGHEST, MOST, Beat, Heard, beat_of
+from companions.gate import NoAnswer
 from companions.reader import Reader, SettingsFault
+from companions.settings import Settings
 from companions.tests.watch_case import WatchCase
 from companions.watch import Watch, hear
 from companions.watch_settings import Hearing, hearing_of
 
-TAKE = str(uuid.UUID(int=77))
+TAKE, OTHER = (str(uuid.UUID(int=it)) for it in (77, 78))
 SILENT = 60.0
 
 
@@ -57,7 +61,8 @@ class OfSettings(unittest.TestCase):
         self.assertEqual(self.hearing("", 40.0).silent, 120.0)
 
     def test_faults(self) -> None:
-        for text, said in (("silent = 29", "watch.silent: is less than 3 times worker.look, in which a worker beats once"),
+        less = "watch.silent: is less than 3 times worker.look, in which a worker beats once"
+        for text, said in (("silent = 29", less),
                            ("silent = 0", "watch.silent: isn't above 0"), ("held = 0", "watch.held: isn't above 0"),
                            ('listen = "8092"', "watch.listen: isn't a host and a port, as 127.0.0.1:8092"),
                            ('listen = "127.0.0.1:65536"', "watch.listen: isn't a host and a port, as 127.0.0.1:8092")):
@@ -65,6 +70,49 @@ class OfSettings(unittest.TestCase):
                 self.hearing(text)
             self.assertEqual(str(raised.exception), f"it.toml: {said}")
         self.assertEqual(self.hearing("silent = 30").silent, 30.0)
+
+
+class OfAWorker(unittest.TestCase):
+    """What a worker says, and when. Its waits end at once here."""
+
+    def setUp(self) -> None:
+        known = Settings("http://127.0.0.1:1", {}, Path("/nowhere"), {}, 1.0, 7.0, 30.0, 1000.0, "gate <gate@local>")
+        self.beating, self.waits, self.said = Beating(known, "w1"), list[float](), list[Beat]()
+        self.enterContext(mock.patch.object(self.beating.gate, "request", self.request))
+        self.enterContext(mock.patch.object(self.beating.news, "wait", self.wait))
+
+    def request(self, method: str, path: str, text: bytes) -> None:
+        self.assertEqual((method, path), ("POST", "/beat"))
+        self.said.append(beat_of(text))
+
+    def wait(self, seconds: float) -> None:
+        self.waits.append(seconds)
+        self.beating.is_ended = len(self.waits) == 3
+
+    def test_it_beats_once_in_worker_look_seconds(self) -> None:
+        self.beating.run()
+        self.assertEqual((self.waits, self.said), ([7.0] * 3, [Beat("w1", 7.0)] * 3))
+
+    def test_each_of_its_builds_is_said_and_a_new_one_at_once(self) -> None:
+        self.beating.put(TAKE, 1)
+        self.assertTrue(self.beating.news.is_set())
+        self.beating.news.clear()
+        self.beating.put(TAKE, 1)
+        self.assertFalse(self.beating.news.is_set())
+        self.beating.put(OTHER, 2, True)
+        self.beating.beat()
+        self.assertEqual(self.said, [Beat("w1", 7.0, TAKE, 1), Beat("w1", 7.0, OTHER, 2, True)])
+        with self.beating.having(TAKE, 1):
+            self.beating.drop(OTHER)
+        self.beating.beat()
+        self.assertEqual(self.said[2:], [Beat("w1", 7.0)])
+
+    def test_what_is_not_heard_is_said_with_the_next_one(self) -> None:
+        self.beating.put(TAKE, 1)
+        with mock.patch.object(self.beating.gate, "request", side_effect=NoAnswer("none")):
+            self.beating.beat()
+        self.beating.beat()
+        self.assertEqual(self.said, [Beat("w1", 7.0, TAKE, 1)])
 
 
 class OfVoices(unittest.TestCase):
@@ -226,8 +274,8 @@ class OfTheWatch(WatchCase):
         self.gate.give(2, change=102)
         self.go(10, ("w1", 1), ("w2", 2))
         self.assertEqual(self.go(50), "watch: no worker has been heard for 21 seconds, and builds run whose workers"
-                                      " were: it is the watch, the proxy or the way to them, so none is reported as lost"
-                                      " for that\n")
+                                      " were: it is the watch, the proxy or the way to them, so none is reported as"
+                                      " lost for that\n")
         self.assertEqual(self.go(10, ("w2", 2)), "watch: workers are heard again\n")
         self.assertEqual(self.gate.told, [])
         self.assertIn("build 1, unit of change 101 at revision 1, has a worker, w1,", self.go(20, ("w2", 2)))
@@ -238,7 +286,13 @@ class OfTheWatch(WatchCase):
         self.gate.give(2, change=102)
         self.go(10, ("w1", 1), ("w2", 2))
         asks = self.watch.ask_first
-        self.watch.ask_first = lambda anew=False: (self.say("w1", 1) if anew else None, asks(anew))[1]
+
+        def ask(anew: bool = False) -> None:
+            if anew:
+                self.say("w1", 1)
+            asks(anew)
+
+        self.watch.ask_first = ask  # type: ignore[assignment]
         self.assertEqual(self.go(60, ("w2", 2)), "")
         self.assertEqual(self.gate.told, [])
 

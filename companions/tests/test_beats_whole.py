@@ -15,6 +15,7 @@ import unittest
 import uuid
 from collections import Counter
 from collections.abc import Callable, Iterator
+from functools import partial
 from pathlib import Path
 
 from companions.beating import Beating
@@ -118,8 +119,9 @@ class Hostile(ProxyTest):
                             self.folder, {}, 1.0, 10.0, 30.0, 1000.0, "gate <gate@localhost>")
         with environ(SSL_CERT_FILE=str(self.folder / "proxy" / "gate.crt")):
             beating = Beating(settings, "w1")
-            for put, found in ((lambda: None, None), (lambda: beating.put(TAKE, 1), False),
-                               (lambda: beating.put(TAKE, 1, True), True)):
+            puts: list[tuple[Callable[[], None], bool | None]] = [
+                (lambda: None, None), (lambda: beating.put(TAKE, 1), False), (lambda: beating.put(TAKE, 1, True), True)]
+            for put, found in puts:
                 put()
                 await asyncio.to_thread(beating.beat)
                 voice = self.heard.voices.get(1)
@@ -208,9 +210,10 @@ class Dying(unittest.TestCase):
             self.addCleanup(kill_marked, mark)
 
     def approve(self, change: int) -> None:
-        for kind, more in (("revision", {"project": "lib", "message": "A change"}), ("approved", {})):
+        kinds: dict[str, dict[str, str]] = {"revision": {"project": "lib", "message": "A change"}, "approved": {}}
+        for kind, more in kinds.items():
             said = {"id": str(uuid.uuid4()), "kind": kind, "change": change, "revision": 1, **more}
-            self.assertIsNotNone(self.gate.until(lambda it=said: self.gate.post("forge", it)).reply)
+            self.assertIsNotNone(self.gate.until(partial(self.gate.post, "forge", said)).reply)
 
     def said(self, name: str) -> str:
         return (self.folder / name).read_text() if (self.folder / name).exists() else ""

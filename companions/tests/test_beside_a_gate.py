@@ -50,9 +50,21 @@ wait
 COMMAND = "sh jobs/$GATED_CHANGE"
 
 
+def end(process: subprocess.Popen[bytes]) -> None:
+    process.kill()
+    process.wait()
+
+
 @unittest.skipUnless(os.geteuid() == 0, "needs root, for another user, a disk and a space of processes")
 @unittest.skipUnless(boxed(), "jobs have no sandboxes here")
 class BesideAGate(unittest.TestCase):
+    folder: Path
+    port: int
+    origin: Origin
+    head: str
+    gate: subprocess.Popen[bytes]
+    workers: subprocess.Popen[bytes]
+
     @classmethod
     def setUpClass(cls) -> None:
         folder = tempfile.TemporaryDirectory()
@@ -72,7 +84,7 @@ class BesideAGate(unittest.TestCase):
         subprocess.run(["chown", "-R", f"{NOBODY}:{NOBODY}", str(cls.origin.folder)], check=True)
         subprocess.run([PROGRAM, "init", cls.folder / "gate.toml", cls.folder / "it.gate"], check=True)
         cls.gate = cls.serve()
-        cls.addClassCleanup(lambda: (cls.gate.kill(), cls.gate.wait()))
+        cls.addClassCleanup(lambda: end(cls.gate))
         cls.workers = cls.start_workers()
 
     @classmethod
@@ -97,8 +109,8 @@ class BesideAGate(unittest.TestCase):
 
     @classmethod
     def serve(cls) -> subprocess.Popen[bytes]:
-        words = [PROGRAM, "serve", cls.folder / "gate.toml", cls.folder / "it.gate", "--port", str(cls.port), "--count",
-                 "1000000"]
+        words: list[str | Path] = [PROGRAM, "serve", cls.folder / "gate.toml", cls.folder / "it.gate", "--port",
+                                   str(cls.port), "--count", "1000000"]
         gate = subprocess.Popen(words, stdout=subprocess.DEVNULL, stderr=subprocess.DEVNULL)
         assert wait_for(lambda: gate.poll() is not None or answers(cls.port), 30.0)
         return gate
@@ -112,7 +124,7 @@ class BesideAGate(unittest.TestCase):
         words = ["unshare", "--pid", "--mount", "--fork", "--kill-child", "--mount-proc", "sh", "-c", text]
         around = {**os.environ, "PYTHONPATH": str(code), "HOME": "/nonexistent", "PYTHONDONTWRITEBYTECODE": "1"}
         workers = subprocess.Popen(words, cwd="/", env=around, start_new_session=True)
-        cls.addClassCleanup(lambda: (workers.kill(), workers.wait()))
+        cls.addClassCleanup(end, workers)
         return workers
 
     def setUp(self) -> None:

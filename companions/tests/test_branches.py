@@ -2,6 +2,8 @@
 from __future__ import annotations
 
 import unittest
+from collections.abc import Callable
+from typing import Any
 from unittest import mock
 
 from companions.checks import QueueStops
@@ -98,10 +100,12 @@ class Forged(NotesCase):
         self.assertEqual(self.said(), "")
 
     def test_a_lander_that_has_lost_its_folder_reads_the_branches(self) -> None:
-        for turn in (lambda: None, lambda: self.git("lib", "update-ref", FIRST_NOTE, self.head()),
-                     lambda: self.git("lib", "update-ref", "-d", NOTE.format(1)),
-                     lambda: self.git("app", "update-ref", "-d", FIRST_NOTE),
-                     lambda: self.git("app", "update-ref", NOTE.format(2), self.forged("app"))):
+        turns: list[Callable[[], object]] = [
+            lambda: None, lambda: self.git("lib", "update-ref", FIRST_NOTE, self.head()),
+            lambda: self.git("lib", "update-ref", "-d", NOTE.format(1)),
+            lambda: self.git("app", "update-ref", "-d", FIRST_NOTE),
+            lambda: self.git("app", "update-ref", NOTE.format(2), self.forged("app"))]
+        for turn in turns:
             if not self.gate.landed:
                 self.land_two()
             turn()
@@ -127,8 +131,13 @@ class Forged(NotesCase):
         self.lander.notes.drop("landing core 000003")
         self.lander.notes.put("whole core", {**self.lander.notes.get("whole core"), "place": 2, "heads": {
             "lib": self.git("lib", "rev-parse", "main^"), "app": self.head("app")}})
-        with mock.patch.object(Repository, "line", autospec=True, side_effect=lambda of, *it, line=Repository.line: (
-                read.append(it) or line(of, *it))):
+        line = Repository.line
+
+        def noted(of: Repository, *it: Any) -> Any:
+            read.append(it)
+            return line(of, *it)
+
+        with mock.patch.object(Repository, "line", autospec=True, side_effect=noted):
             self.lander = self.start()
         self.assertEqual((read, self.lander.branches.noted), ([(head, self.git("lib", "rev-parse", "main^"))], 3))
 

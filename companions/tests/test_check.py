@@ -28,8 +28,8 @@ class CheckTest(unittest.TestCase):
         room = tempfile.TemporaryDirectory()
         self.addCleanup(room.cleanup)
         self.machine = Machine(Path(room.name))
-        for name in (SERVICE / "systemd").iterdir():
-            self.put(f"/usr/local/lib/systemd/system/{name.name}", name.read_text())
+        for file in (SERVICE / "systemd").iterdir():
+            self.put(f"/usr/local/lib/systemd/system/{file.name}", file.read_text())
         for name in STARTED:
             self.put(f"/etc/systemd/system/{name}", "")
         self.put("/usr/local/bin/gated", f'#!/bin/sh\nexec {PROGRAM} "$@"\n').chmod(0o755)
@@ -112,9 +112,9 @@ class CheckTest(unittest.TestCase):
             self.put("/etc/nginx/nginx.conf", f"user www-data;\n{said}\n")
             self.assertEqual(self.lacking(), [lacks])
         self.put("/etc/nginx/nginx.conf", "worker_processes auto;\n")
-        for has, said in ((1, [lacks]), (8, [])):
+        for has, found in ((1, [lacks]), (8, list[str]())):
             with unittest.mock.patch("os.cpu_count", return_value=has):
-                self.assertEqual(self.lacking(), said)
+                self.assertEqual(self.lacking(), found)
 
     def test_a_standby(self) -> None:
         """It has other units, a file of its own, and a password for the follower."""

@@ -22,6 +22,7 @@ from companions.tests.boxes import boxed
 from companions.tests.forge import Origin
 from companions.tests.standin import StandIn
 from companions.tests.test_proxy import PASSWORDS, ProxyTest
+from companions.tokens import HEADER
 
 GATE = """[forge]
 base = "https://forge/c/"
@@ -262,7 +263,7 @@ class OfTheGate(ProxyTest, FilesCase):
             f"worker.toml: {said}/builds/1: [Errno 111] Connection refused"])
 
 
-HOOK = {"config": {"url": "https://gate.example/hook"}, "active": True}
+HOOK: dict[str, Any] = {"config": {"url": "https://gate.example/hook"}, "active": True}
 # What forges show where all is well, by their documentation, below the path of the repository.
 SHOWN: dict[str, dict[str, Any]] = {
     "gitea": {"": {"permissions": {"push": True, "admin": True}}, "/branches/main": {"protected": True},
@@ -278,6 +279,8 @@ NO_END = "adapter.token: the forge doesn't say when it ends"
 
 
 class OfTheForge(FilesCase):
+    head: dict[str, str] = {}
+
     def found(self, form: str, user: tuple[int, Any] = (200, {"id": 7}), now: float = 0.0, **other: Any) -> list[str]:
         """What is said of a forge that shows this; `other` are answers by the last word of their path."""
         shown, own = {**SHOWN[form]}, "/projects/acme%2Flib" if form == "gitlab" else "/repos/acme/lib"
@@ -294,13 +297,15 @@ class OfTheForge(FilesCase):
             return (200, more[path]) if more.get(path) is not None else (404, {"message": "Not Found"})
 
         with StandIn(answers) as standin:
+            standin.more = self.head
             self.put("companions", self.text("companions", ADAPTER.format(form=form, api=f"{standin.url}/api")))
             found = [it.replace(standin.url, "URL") if not isinstance(it, Unseen) else f"({it})"
                      for it in check_forge.look(self.files().companions, now)]
         return [it.replace(f"{self.place}/companions.toml: ", "") for it in found]
 
     def test_where_all_is_well(self) -> None:
-        for form, ends in (("gitea", [f"({NO_END})"]), ("github", [f"({NO_END})"]), ("gitlab", [])):
+        ends_of: dict[str, list[str]] = {"gitea": [f"({NO_END})"], "github": [f"({NO_END})"], "gitlab": []}
+        for form, ends in ends_of.items():
             self.assertEqual(self.found(form), [*ends, f"({IS_PROTECTED})"], form)
 
     def test_tokens(self) -> None:
@@ -309,7 +314,10 @@ class OfTheForge(FilesCase):
                 "adapter.token: the forge refuses it (status 401): make a new one"])
             self.assertEqual(self.found(form, (404, {})), [
                 f"adapter.url: URL/api isn't the API of {form}: /user has status 404"])
-        self.assertEqual(self.found("gitlab", now=20 * 86400.0)[0], "adapter.token ends on 1970-02-01: make a new one")
+        for form, ends in (("gitlab", ""), ("github", "1970-02-01 00:00:00 UTC")):
+            self.head = {HEADER: ends}
+            self.assertEqual(self.found(form, now=18 * 86400.0)[0], "adapter.token ends on 1970-02-01: make a new one")
+            self.assertEqual(self.found(form, now=16 * 86400.0), [f"({IS_PROTECTED})"])
 
     def test_rights(self) -> None:
         may_not = {"permissions": {"push": False}}
@@ -334,8 +342,10 @@ class OfTheForge(FilesCase):
                           self.found(form, hooks=None))
         self.assertIn("project lib: developers may push or merge to main: let only the gate's account do so",
                       self.found("gitlab", main={"protected": True, "developers_can_merge": True}))
-        self.assertIn("project lib: the webhook to https://gate.example/hook is switched off: switch it on",
-                      self.found("gitea", hooks=[{**HOOK, "active": False}]))
+        for form, it in (("gitea", {**HOOK, "active": False}), ("gitlab", {**HOOK["config"], "disabled_until": "x"})):
+            self.assertIn("project lib: the webhook to https://gate.example/hook is switched off: switch it on",
+                          self.found(form, hooks=[it]))
+            self.assertNotIn("switched off", "".join(self.found(form, hooks=[it, HOOK])))
 
     def test_answers_that_are_wrong(self) -> None:
         for said in ("<html>", "[" * 100, "[]", '"x"', b"\xff"):
@@ -379,7 +389,7 @@ class Command(FilesCase):
         (folder / "gated.service").touch()
         self.change("worker", f"sandbox = {str(boxed()).lower()}", "sandbox = true")
         with (mock.patch.object(check, "UNIT_FOLDERS", (str(folder),)),
-              mock.patch.object(check.sandbox, "refused", lambda: "bubblewrap is missing")):
+              mock.patch("companions.sandbox.refused", lambda: "bubblewrap is missing")):
             said = self.main(*self.names())[1]
         for it in ("workers: bubblewrap is missing", "the unit gated-lander.service isn't there: run install",
                    "gated.service doesn't start with the machine: systemctl enable --now gated"):

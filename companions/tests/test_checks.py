@@ -4,6 +4,7 @@ from __future__ import annotations
 import dataclasses
 import os
 import unittest
+from typing import Any
 from unittest import mock
 
 from companions import answers
@@ -144,9 +145,11 @@ class Proven(LanderCase):
         self.assertIn("unit has no success of it (live successful builds: 41)", self.refused(1, 101))
 
     def test_only_live_successes_of_the_item_count(self) -> None:
-        for builds in ([], [{"build": 41, "job": "unit", "live": False, "outcome": "success"}],
-                       [{"build": 41, "job": "unit", "live": True, "outcome": "failure"}],
-                       [{"build": 41, "job": "docs", "live": True, "outcome": "success"}]):
+        cases: list[list[dict[str, Any]]] = [
+            [], [{"build": 41, "job": "unit", "live": False, "outcome": "success"}],
+            [{"build": 41, "job": "unit", "live": True, "outcome": "failure"}],
+            [{"build": 41, "job": "docs", "live": True, "outcome": "success"}]]
+        for builds in cases:
             self.change(101)
             self.order(1, 101)
             self.gate.builds[1] = builds
@@ -263,9 +266,9 @@ class Heads(LanderCase):
         self.assertEqual(self.be_tested(9, 102, after=1), self.git("lib", "rev-parse", "main^"))
 
     def test_ids_of_successes_are_of_all_that_they_say(self) -> None:
-        said = (7, "core", 101, 1, "unit", "c" * 40)
+        said: list[Any] = [7, "core", 101, 1, "unit", "c" * 40]
         self.assertEqual(success_id(*said), "a1d9161e-e628-5a05-ab04-8d4852f8db13")
-        others = {success_id(*said[:at], other, *said[at + 1:]) for at, other in enumerate(  # type: ignore[arg-type]
+        others = {success_id(*[*said[:at], other, *said[at + 1:]]) for at, other in enumerate(
             (8, "web", 102, 2, "docs", "d" * 40))}
         self.assertEqual(len(others - {success_id(*said)}), 6)
 

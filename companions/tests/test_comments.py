@@ -154,7 +154,7 @@ class EachForm(AdapterCase):
 
     def state(self) -> str | None:
         status = self.model.status("acme/lib", self.model.pulls[self.place].head)
-        return status and status.state
+        return status.state if status is not None else None
 
     def say(self) -> None:
         """People are told."""

@@ -1,4 +1,4 @@
-"""The settings that docs/CONNECTING.md shows and lists are those that are read."""
+"""What docs/CONNECTING.md shows: its example of settings, and what it computes by hand."""
 from __future__ import annotations
 
 import hashlib
@@ -6,40 +6,22 @@ import json
 import re
 import tempfile
 import unittest
-import unittest.mock
 import uuid
 from pathlib import Path
 
 from companions.ids import revision_id, success_id
 from companions.merging import Merge, Parent
-from companions.settings import ROLES, Reader, Settings, SettingsFault, read
+from companions.settings import Settings, read
 from companions.squash import Squash, squashed, tag_of
 
 PAGE = Path(__file__).resolve().parents[2] / "docs" / "CONNECTING.md"
-# What the page's example doesn't have, and is read only where it is there.
-LOGS = ('[adapter]\nlogs = "https://logs.example/{build}"\ncopies = "/var/lib/gated-copies"\n'
-        'page = "/var/lib/gated-page"\ntell = "cat"\nrequire = ["ci/lint"]\n')
-ACCOUNTS = "".join(f'[gate.{it}]\nuser = "a"\npassword = "b"\n' for it in ROLES)
-WORKER = '[worker]\nlogs = "/var/lib/gated-logs"\n'
-# Tables of which nothing is said but by their members; those of accounts are told in one row.
-TABLES = {"gate", "lander", "worker", "watch", "ci",
-          *(f"gate.{role}.{it}" for role in ROLES for it in ("user", "password"))}
 
 
 def example() -> str:
     """The companions.toml of the walk."""
-    return re.findall(r"^```toml\n(folder .*?)^```", PAGE.read_text(encoding="utf-8"), re.MULTILINE | re.DOTALL)[0]
-
-
-def members() -> str:
-    """The page's table of members, with what stands around it."""
-    return PAGE.read_text(encoding="utf-8").split("\n## The settings of the companions\n")[1].split("\n###")[0]
-
-
-def listed() -> list[str]:
-    """The members in the table's first column."""
-    rows = re.findall(r"^\| (`.*?) \|", members(), re.MULTILINE)
-    return [it for row in rows for it in re.findall(r"`([^`]+)`", row)]
+    found: list[str] = re.findall(r"^```toml\n(folder .*?)^```", PAGE.read_text(encoding="utf-8"),
+                                  re.MULTILINE | re.DOTALL)
+    return found[0]
 
 
 def settings_of(text: str) -> Settings:
@@ -47,18 +29,6 @@ def settings_of(text: str) -> Settings:
         file = Path(folder) / "companions.toml"
         file.write_text(text, encoding="utf-8")
         return read(file)
-
-
-def members_read(text: str) -> set[str]:
-    """The whole names of the members that are read of a file."""
-    names: set[str] = set()
-
-    def end(reader: Reader) -> None:
-        names.update(re.sub(r"\[\d+\]", "", reader.where) + it for it in reader.read)
-
-    with unittest.mock.patch.object(Reader, "end", end):
-        settings_of(text)
-    return names
 
 
 class PageTest(unittest.TestCase):
@@ -69,10 +39,6 @@ class PageTest(unittest.TestCase):
         self.assertEqual((settings.adapter.form, settings.adapter.port), ("gitea", 8090))
         self.assertEqual([it.forge for it in settings.projects.values()], ["acme/lib"])
         self.assertIn(f'[forge]\nbase = "{settings.adapter.base}"\n', PAGE.read_text(encoding="utf-8"))
-
-    def test_what_is_read_is_listed_and_what_is_listed_is_read(self) -> None:
-        found = members_read(example().replace("[adapter]\n", LOGS) + ACCOUNTS + WORKER)
-        self.assertEqual(sorted(listed()), sorted(found - TABLES))
 
     def test_the_example_of_an_id_is_the_function_s(self) -> None:
         page = PAGE.read_text(encoding="utf-8")
@@ -85,8 +51,8 @@ class PageTest(unittest.TestCase):
 
     def test_the_example_of_a_success_is_the_function_s(self) -> None:
         page = PAGE.read_text(encoding="utf-8")
-        space, said = re.findall(r"name space is always `(\S+)`,.*?\n\n      (\[\"success\", .*?\])\n\n  gives `\S+`", page,
-                                 re.DOTALL)[0]
+        space, said = re.findall(r"name space is always `(\S+)`,.*?\n\n      (\[\"success\", .*?\])\n\n  gives `\S+`",
+                                 page, re.DOTALL)[0]
         told = re.findall(r"^  gives `(\S+)`\. Failures", page, re.MULTILINE)[0]
         _, build, queue, change, revision, job, commit = json.loads(said)
         self.assertEqual(success_id(int(build), queue, int(change), int(revision), job, commit), told)
@@ -106,7 +72,8 @@ class PageTest(unittest.TestCase):
         self.assertEqual(hashlib.sha1(b"commit %d\0" % len(content) + content).hexdigest(), commit)
 
     def test_the_example_of_a_tag_is_the_function_s(self) -> None:
-        text, = re.findall(r"with `land = \"squash\"`:\n\n(    object .*?)\n\n- ", PAGE.read_text(encoding="utf-8"), re.DOTALL)
+        page = PAGE.read_text(encoding="utf-8")
+        text, = re.findall(r"with `land = \"squash\"`:\n\n(    object .*?)\n\n- ", page, re.DOTALL)
         content = (re.sub("^    ", "", text, flags=re.MULTILINE) + "\n").encode()
         commit, squash = squashed(content) or ("", Squash("", ""))
         self.assertEqual(squash, Squash("Ann Example <ann@example>", "Use three\n\nTwo were too few."))
@@ -120,13 +87,6 @@ class PageTest(unittest.TestCase):
             self.assertGreaterEqual(len(rows), 5)
             for row in rows:
                 self.assertRegex(row.rstrip(" |").rpartition(" | ")[2], r"\b(recorded|run|read)\b", row)
-
-    def test_what_must_be_there_has_no_default(self) -> None:
-        rows = re.findall(r"^\| (`.*?) \|.*\| must be there \|$", members(), re.MULTILINE)
-        names = {it for row in rows for it in re.findall(r"`([^`]+)`", row)} - {"project"}
-        for name in sorted(names):
-            with self.subTest(name), self.assertRaisesRegex(SettingsFault, "is missing"):
-                settings_of(re.sub(rf"^{name.split('.')[-1]} = .*\n", "", example(), flags=re.MULTILINE))
 
 
 if __name__ == "__main__":

@@ -138,8 +138,10 @@ class Proxies(unittest.TestCase):
         self.assertEqual(self.proxy("https://api.example/v1", https_proxy="http://proxy:3128"), "proxy:3128")
         self.assertEqual(self.proxy("https://api.example/v1", HTTPS_PROXY="proxy:3128"), "proxy:3128")
         self.assertEqual(self.proxy("https://api.example", https_proxy="http://a", HTTPS_PROXY="http://b"), "a")
-        for url, said in (("http://api.example", {"https_proxy": "http://proxy"}), ("https://api.example", {}),
-                          ("https://api.example", {"https_proxy": ""}), ("https://a", {"http_proxy": "http://proxy"})):
+        cases: list[tuple[str, dict[str, str]]] = [
+            ("http://api.example", {"https_proxy": "http://proxy"}), ("https://api.example", {}),
+            ("https://api.example", {"https_proxy": ""}), ("https://a", {"http_proxy": "http://proxy"})]
+        for url, said in cases:
             self.assertIsNone(self.proxy(url, **said), (url, said))
 
     def test_this_machine_is_asked_directly(self) -> None:

@@ -5,7 +5,6 @@ import contextlib
 import hashlib
 import io
 import json
-import sqlite3
 import subprocess
 import tarfile
 import tempfile
@@ -25,7 +24,8 @@ from companions.tests.service import LINES, SERVICE, SETTINGS, ServiceTest, ids_
 def written(tar: Path) -> dict[str, Any]:
     """The notes in a copy of people.db."""
     with tempfile.TemporaryDirectory() as folder, tarfile.open(tar) as it:
-        it.extractall(folder, filter="data")
+        # This mypy doesn't know the word yet.
+        it.extractall(folder, filter="data")  # type: ignore[call-arg]
         notes = Notes(Path(folder) / "people.db")
         try:
             return notes.all("")

@@ -14,7 +14,8 @@ from companions import settings
 from companions.gate import Answer, Gate, NoAnswer, Order, QueueStatus, Status
 from companions.ids import id_of
 from companions.outbox import Kept, Notes, Outbox
-from companions.settings import Account, SettingsFault
+from companions.reader import SettingsFault
+from companions.settings import Account
 from companions.tests.standin import StandIn
 
 WHOLE = """
@@ -97,7 +98,9 @@ class Settings(Case):
                 ("/srv/git/app.git", "https://gate:a token@git.example/acme/app.git",
                  r"project\[1\].repository: has a password in it, which git prints and other programs see: use SSH with"
                  " a key, or leave the password to a credential helper of git"),
-                ("/srv/git/app.git", "HTTPS://:a@git.example/acme/app.git", "project.1..repository: has a password"),
+                *(("/srv/git/app.git", f"{it}@git.example/acme/app.git", "project.1..repository: has a password")
+                  for it in ("HTTPS://:a", "https://ghp_abc", "https://github_pat_11AB", "https://glpat-x", "https://"
+                             + 40 * "0")),
                 ('queue = "core"\nrepository = "/srv/git/app.git"\nbranch = "trunk"',
                  'queue = "web"\nrepository = "/srv/git/lib.git"', r"project\[1\].branch: main of .* is another"),
                 ('branch = "trunk"', 'branch = ""', r"project\[1\].branch: is empty"),
@@ -142,7 +145,9 @@ class Settings(Case):
                 ('["ada"]', '["ada"]\npoll = 1', "adapter.poll: isn't known")):
             with self.subTest(told), self.assertRaisesRegex(SettingsFault, f"companions.toml: {told}"):
                 self.read(WHOLE + ADAPTER.replace(old, new, 1))
-        self.assertIsNone(self.read(WHOLE + ADAPTER.replace("approvers", "# approvers")).adapter.approvers)
+        adapter = self.read(WHOLE + ADAPTER.replace("approvers", "# approvers")).adapter
+        assert adapter is not None
+        self.assertIsNone(adapter.approvers)
         self.assertEqual([self.read(WHOLE + ADAPTER + it).blind for it in ("", "blind = 400\n", "compare = 400\n")],
                          [900.0, 400.0, 1200.0])
 
@@ -248,9 +253,10 @@ class Answers(Asked):
         self.assertEqual([self.gate.lines("/x") for _ in range(3)], [["a"], [], None])
 
     def test_a_page_of_another_form_is_none(self) -> None:
-        for ask, said in ((self.gate.orders, {"queues": 1}), (self.gate.orders, [{"order": 1}]), (self.gate.running, []),
-                          (self.gate.status, "some page\nend\n"), (self.gate.status, "\nend\n"),
-                          (self.gate.first, "{}\nend 1\n"), (self.gate.first, "x\nend 1\n")):
+        for ask, said in ((self.gate.orders, {"queues": 1}), (self.gate.orders, [{"order": 1}]),
+                          (self.gate.running, []), (self.gate.status, "some page\nend\n"),
+                          (self.gate.status, "\nend\n"), (self.gate.first, "{}\nend 1\n"),
+                          (self.gate.first, "x\nend 1\n")):
             self.says = [(200, said)]
             with self.subTest(said), self.assertRaises(NoAnswer):
                 ask()

@@ -40,18 +40,18 @@ class DiskTest(ServiceTest):
     def begin(self) -> None:
         """A gate that has accepted the end of a build, and what asks it whether it accepts."""
         self.process, self.address = self.serve(self.file)
-        self.gate = Gate(self.address, None)
-        if self.gate.first() is None:
+        self.client = Gate(self.address, None)
+        if self.client.first() is None:
             for line in ('"kind":"revision","change":1,"project":"app","revision":1,"message":""',
                          '"kind":"approved","change":1,"revision":1', '"kind":"take","worker":"w1"',
                          '"kind":"result","build":1,"outcome":"success"'):
                 tell(self.address, f'{{"id":"{uuid.uuid4()}",{line}}}')
-        self.accepting = Accepting(self.gate, self.gate)
+        self.accepting = Accepting(self.client, self.client)
 
     def answers(self, said: dict[str, Any]) -> tuple[int | None, int | None]:
         """The statuses of a delivery and of a question behind it."""
         statuses: list[int | None] = []
-        for ask in (lambda: self.gate.post("forge", said), self.gate.status):
+        for ask in (lambda: self.client.post("forge", said), self.client.status):
             try:
                 ask()
             except NoAnswer as fault:

@@ -190,8 +190,8 @@ core: 3 of 3 landings hold; which jobs they had is the lander's word
         self.lander.carry_out(self.order(4, 104, "app", is_tested=False))
         status, printed = self.run_it("4")
         self.assertEqual((status, printed), (0, (
-            f"core 4 app: change 104, revision 1, {self.head('app')[:12]}: its project has evidence = false, so its tests"
-            " weren't asked for\ncore: 1 of 1 landings hold; which jobs they had is the lander's word\n")))
+            f"core 4 app: change 104, revision 1, {self.head('app')[:12]}: its project has evidence = false, so its"
+            " tests weren't asked for\ncore: 1 of 1 landings hold; which jobs they had is the lander's word\n")))
 
     def test_landings_of_an_earlier_version_are_said_to_be_such(self) -> None:
         for name in ("lib", "app"):

@@ -10,7 +10,8 @@ import unittest
 import urllib.request
 from pathlib import Path
 
-from companions.settings import SettingsFault, read
+from companions.reader import SettingsFault
+from companions.settings import read
 
 TOP = Path(__file__).resolve().parents[2]
 STAGE = TOP / "examples" / "forge" / "stage.sh"

@@ -165,8 +165,10 @@ class Incoming(Case):
         self.assertLess(tracemalloc.get_traced_memory()[1], LARGEST // 2)
 
     def test_a_hook_that_cannot_be_kept_is_answered(self) -> None:
+        """Those of more than 64 KiB are kept in a file."""
         self.hooks.folder = self.folder / "nowhere"
-        self.assertEqual(self.post(b'["acme/lib", 12]' + b" " * LARGE), 500)
+        said = b'["acme/lib", 12]'
+        self.assertEqual([self.post(said.ljust(it)) for it in (65536, 65537)], [200, 500])
         self.assertIn("adapter: a hook can't be kept: ", self.lines()[-1])
 
     def test_there_are_so_many_connections_at_once(self) -> None:

@@ -28,7 +28,8 @@ echo "== third" && companions/service/install
 ! grep -q '@worker@' /etc/gated/worker.toml && ! grep -q '@forge@\\|@watch@\\|@secret@' /etc/gated/companions.toml
 grep -q "$(cat /etc/gated/worker.password)" /etc/gated/worker.toml
 stat -c '%a %U %G %n' /etc/gated/companions.toml /etc/gated/worker.toml /etc/gated/gate.toml \\
-    /etc/nginx/gate.passwords /etc/gated/forge.password /var/lib/gated /var/lib/gated-copies /var/lib/gated-page /var/lib/gated-logs
+    /etc/nginx/gate.passwords /etc/gated/forge.password /var/lib/gated /var/lib/gated-copies /var/lib/gated-page \\
+    /var/lib/gated-logs
 """
 MODES = """\
 640 root gated-companions /etc/gated/companions.toml

@@ -88,7 +88,7 @@ class Kinds(KeepingCase):
                                  check=False)
         if mounted.returncode != 0:
             self.skipTest(f"no disk can be mounted: {mounted.stderr!r}")
-        self.addCleanup(subprocess.run, ["umount", "--lazy", str(state)], check=True)
+        self.addCleanup(lambda: subprocess.run(["umount", "--lazy", str(state)], check=True))
         self.room = "patience = 3\nfree = 4194304"
         self.worker = self.start()
 
@@ -171,8 +171,8 @@ class Kinds(KeepingCase):
         """Puts the repository away, and gives what is said of that, and what brings it back."""
         there = self.origin.folder
         away = there.rename(self.folder / "away.git")
-        said = (f"fatal: '{there}' does not appear to be a git repository fatal: Could not read from remote repository. "
-                "Please make sure you have the correct access rights and the repository exists.")
+        said = (f"fatal: '{there}' does not appear to be a git repository fatal: Could not read from remote repository."
+                " Please make sure you have the correct access rights and the repository exists.")
         return said, lambda: away.rename(there)
 
     def test_a_repository_that_cannot_be_read(self) -> None:
@@ -344,7 +344,8 @@ class Times(KeepingCase):
         self.assertEqual(self.outcomes(), [(7, "lost"), (8, "success")])
 
     def test_a_build_that_is_not_wanted_meanwhile_is_let_go(self) -> None:
-        for number, other in enumerate(({"live": False}, {"outcome": "lost"}, {"change": 105}), 7):
+        others: list[dict[str, Any]] = [{"live": False}, {"outcome": "lost"}, {"change": 105}]
+        for number, other in enumerate(others, 7):
             self.gate.left = [self.reply(number, 103)]
             self.failing()
             self.at(self.pretended.so_far + 0.5, lambda: self.gate.show(self.reply(number, 103), **other))
@@ -359,7 +360,7 @@ class Times(KeepingCase):
         def proxied(method: str, path: str, body: bytes) -> Said:
             return (502, "bad gateway") if method == "GET" else answer(method, path, body)
 
-        self.gate.answer = proxied  # type: ignore[method-assign]
+        self.gate.answer = proxied  # type: ignore[assignment]
         self.worker.turn()
         self.assertEqual((len(tried), self.outcomes()), (6, [(7, "lost")]))
 

@@ -51,8 +51,8 @@ class LanderTest(LanderCase):
         self.lander.carry_out(self.order(2, 102))
         self.assertEqual([it["kind"] for it in self.gate.told], ["landed", "refused"])
         self.assertEqual(self.head(), head)
-        self.assertIn("lander: core: refused change 102, revision 1: it can't be merged into main: it conflicts with change"
-                      " 101 in file: {'reply': 'removed'}\n", self.said())
+        self.assertIn("lander: core: refused change 102, revision 1: it can't be merged into main: it conflicts with"
+                      " change 101 in file: {'reply': 'removed'}\n", self.said())
 
     def test_a_queue_that_is_held_lands_nothing_until_it_is_resumed(self) -> None:
         self.change(101)

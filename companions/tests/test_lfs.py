@@ -10,9 +10,8 @@ from pathlib import Path
 from typing import Any
 from unittest import mock
 
-from companions import lfs, settings, worker
-from companions.repository import Repository
-from companions.settings import SettingsFault
+from companions import lfs, worker
+from companions.reader import SettingsFault
 from companions.tests.forge import WHO
 from companions.tests.standin import StandIn
 from companions.tests.worker_case import PretendClock, WorkerCase
@@ -72,7 +71,7 @@ class Files(WorkerCase):
                          ({"lib": tree}, POINTER.strip()))
 
     def test_the_commit_is_the_same_with_and_without(self) -> None:
-        commits = []
+        commits: list[str] = []
         for room in ('filters = ["lfs"]', ""):
             self.room = room
             self.worker = self.start("cat a.bin")
@@ -110,8 +109,8 @@ class Files(WorkerCase):
         self.store().unlink()
         self.worker.turn()
         self.assertEqual(self.outcomes(), [(7, "failure")], self.errors.getvalue())
-        self.assertIn(f"build 7: failure, its file a.bin isn't in the git-lfs of its project, where {HASH} is missing\n",
-                      self.errors.getvalue())
+        self.assertIn(f"build 7: failure, its file a.bin isn't in the git-lfs of its project, where {HASH} is"
+                      " missing\n", self.errors.getvalue())
 
     def test_a_repository_that_is_away_is_not(self) -> None:
         fetch = self.worker.trees.ask

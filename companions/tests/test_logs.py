@@ -7,7 +7,7 @@ import re
 import unittest
 
 from companions.building import Builder
-from companions.settings import SettingsFault
+from companions.reader import SettingsFault
 from companions.tests.boxes import boxed
 from companions.tests.test_proxy import ProxyTest, StandIn
 from companions.tests.worker_case import PretendClock, WorkerCase
@@ -37,7 +37,8 @@ class LeavingTest(WorkerCase):
         self.worker.turn()
         self.gate.left = [self.reply(7, 104)]
         self.worker.turn()
-        first, second = (it.read_text() for it in sorted((self.logs / "7").iterdir(), key=lambda it: it.stat().st_mtime_ns))
+        logs = sorted((self.logs / "7").iterdir(), key=lambda it: it.stat().st_mtime_ns)
+        first, second = (it.read_text() for it in logs)
         self.assertIn("change 103", first)
         self.assertIn("change 104", second)
         self.assertNotIn("change 103", second)
@@ -47,7 +48,8 @@ class LeavingTest(WorkerCase):
         self.clock.meanwhile = lambda seconds: self.logs.mkdir(exist_ok=True) if seconds > 5 else None
         self.worker.turn()
         self.assertEqual(self.outcomes(), [(7, "success")])
-        self.assertIn("build 7: kept, since it can't be run here: [Errno 2] No such file or directory", self.errors.getvalue())
+        self.assertIn("build 7: kept, since it can't be run here: [Errno 2] No such file or directory",
+                      self.errors.getvalue())
         self.assertIn("build 7: begins again", self.errors.getvalue())
 
     def test_no_job_sees_the_logs_of_others(self) -> None:
@@ -97,7 +99,8 @@ class GivingTest(ProxyTest):
 
     async def test_its_end_is_had_by_a_range(self) -> None:
         self.log.write_text("0123456789")
-        for wanted, status, ends in (("bytes=7-", 206, "\r\n\r\n789"), ("bytes=-2", 206, "\r\n\r\n89"), ("bytes=10-", 416, "")):
+        for wanted, status, ends in (("bytes=7-", 206, "\r\n\r\n789"), ("bytes=-2", 206, "\r\n\r\n89"),
+                                     ("bytes=10-", 416, "")):
             answered, head = await self.head("logs/17/unit-0a0b0c0d.log", "alice", more=f"Range: {wanted}\r\n")
             self.assertEqual(answered, status)
             self.assertTrue(head.endswith(ends), head)

@@ -35,7 +35,8 @@ class Reading(unittest.TestCase):
 
     def test_a_subject_is_the_first_line_that_is_not_blank(self) -> None:
         for message, subject in ((b"Make it\n\nGate-Queue: x\n", "Make it"), (b"", ""),
-                                 (b"\n \t\n  Make it \n", "Make it"), (b"Make\tit\r\n", "Make it"), (b"M\xc3\xa4ke", "M\u00e4ke"), (b"M\xe4ke", "M\ufffdke"),
+                                 (b"\n \t\n  Make it \n", "Make it"), (b"Make\tit\r\n", "Make it"),
+                                 (b"M\xc3\xa4ke", "M\u00e4ke"), (b"M\xe4ke", "M\ufffdke"),
                                  (b"a\rGate-Place: 9", "a Gate-Place: 9"), ("a\u2028b".encode(), "a\u2028b"),
                                  (b"x" * 500, "x" * 200), (b"x" * 199 + b" y", "x" * 199), (b"\x00\x1b[1m", "[1m")):
             self.assertEqual(subject_of(message), subject)
@@ -144,7 +145,7 @@ class Table(unittest.TestCase):
         "a file in a renamed directory": None,
         "the same lines": None,
         "attributes of the tree": None,
-        "line ends": "55874b2aafd6cc894c7444213d2734204acd4eef",}
+        "line ends": "55874b2aafd6cc894c7444213d2734204acd4eef"}
 
     def test_hashes(self) -> None:
         cases, repository = self.cases(), self.repository("mirror")

@@ -5,7 +5,7 @@ import unittest
 from dataclasses import replace
 
 from companions.forges import Place
-from companions.needs import Known, clean, message, named, needs_of
+from companions.needs import Known, Needs, clean, message, named, needs_of
 from companions.requests import Request, State
 
 WEB = "https://forge.example"
@@ -68,7 +68,7 @@ class Found(unittest.TestCase):
     def change_of(self, place: Place, target: str) -> tuple[int, bool] | None:
         return None if target == "topic" else (place.number * 10, place.number * 10 in self.stands)
 
-    def needs(self, *lines: str):
+    def needs(self, *lines: str) -> Needs:
         text = "\n".join(f"Depends-On: {it}" for it in lines)
         return needs_of(replace(SO, text=text), WEB, {"acme/lib": "acme/lib"}, self.ask, self.change_of)
 

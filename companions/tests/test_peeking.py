@@ -10,6 +10,7 @@ from pathlib import Path
 from unittest import mock
 
 from companions.forges import Place
+from companions.repository import Repository
 from companions.requests import Vote
 from companions.tests.adapter_case import Case as AdapterCase
 
@@ -35,14 +36,15 @@ class Peeking(AdapterCase):
     def size(self) -> int:
         """The bytes of all that the adapter has of repositories."""
         folder = self.settings.folder / "adapter"
-        return sum(it.stat().st_size for it in folder.rglob("*") if it.is_file() and not it.name.startswith("adapter.db"))
+        return sum(it.stat().st_size for it in folder.rglob("*")
+                   if it.is_file() and not it.name.startswith("adapter.db"))
 
     def traced(self, head: str) -> tuple[int, int]:
         """The most bytes that git had there at a time, and then those that are left."""
         most = [0]
         content = self.adapter.looks.repositories["lib"].__class__.content
 
-        def measured(repository, it: str, kind: str = "commit") -> bytes:
+        def measured(repository: Repository, it: str, kind: str = "commit") -> bytes:
             most[0] = max(most[0], sum(one.stat().st_size for one in repository.mirror.rglob("*") if one.is_file()))
             return content(repository, it, kind)
 
@@ -78,7 +80,8 @@ class Peeking(AdapterCase):
 
     def test_a_long_message_is_not_read_to_its_end(self) -> None:
         self.look(self.be(13, 0))
-        head = self.origin.git("commit-tree", f"{self.base}^{{tree}}", "-p", self.base, "-F", "-", given="x" * (64 << 20))
+        head = self.origin.git("commit-tree", f"{self.base}^{{tree}}", "-p", self.base, "-F", "-",
+                               given="x" * (64 << 20))
         self.be(12, head)
         self.adapter.file.ask()
         tracemalloc.start()
@@ -99,7 +102,8 @@ class Peeking(AdapterCase):
         began = time.monotonic()
         self.assertEqual(self.look(place), [])
         self.assertLess(time.monotonic() - began, 60)
-        self.assertRegex(self.lines()[-1], "^adapter: acme/lib 12: GitFault: git .* fetch .*: no end within 0.5 seconds$")
+        self.assertRegex(self.lines()[-1],
+                         "^adapter: acme/lib 12: GitFault: git .* fetch .*: no end within 0.5 seconds$")
         self.assertEqual([it for it in Path(repository.mirror.parent).iterdir() if it.name.startswith("peek-")], [])
         repository.address = address
         self.assertEqual(self.look(place), ["revision 2 1"])

@@ -30,12 +30,16 @@ PASSWORDS = {"forge": "f" * 48, "worker": "a" * 48, "watch": "b" * 48, "standby"
 GUESSER, ELSEWHERE = "127.0.0.2", "127.0.0.3"
 # What an address has a second under people's names, and before that, and what all addresses have together.
 RATE, BURST, ALL, BURST_OF_ALL = 30, 120, 60, 240
+# What the page may do: scripts, styles and questions of its own host, and nothing else.
+POLICY = ("default-src 'none'; script-src 'self'; style-src 'self'; connect-src 'self'; base-uri 'none';"
+          " form-action 'none'; frame-ancestors 'none'")
 # Long passwords that come a second, and for how long they come before the watch asks.
 GUESSES, BEFORE = 33, 3.0
 
 
 class StandIn(BaseHTTPRequestHandler):
-    """Answers as a gate that has nothing, and keeps what it was sent. /items/1 is answered once it may be."""
+    """Answers as a gate that has nothing, and keeps what it was sent. /items/1 is answered once it may be. As for the
+    gate, a path that is written otherwise is another one, which isn't there."""
     heads: list[dict[str, str]] = []
     may_answer = threading.Event()
 
@@ -44,7 +48,7 @@ class StandIn(BaseHTTPRequestHandler):
         if self.path == "/items/1":
             self.may_answer.wait(60)
         content = b"end\n"
-        self.send_response(200)
+        self.send_response(404 if re.search("%|//|/[.]", self.path) else 200)
         self.send_header("Content-Length", str(len(content)))
         self.end_headers()
         self.wfile.write(content)
@@ -162,22 +166,34 @@ class Passing(ProxyTest):
             self.assertEqual((await self.head(path, name, method=method))[0], 200, path)
             self.assertEqual([it for it in StandIn.heads[0] if "authorization" in it], [], path)
 
-
     async def test_people_share_answers_and_programs_get_their_own(self) -> None:
         """By an answer of a second ago a lander that starts again would refuse a sound change."""
         self.add("ben", quick_hash("his"))
-        for path in ("status", "running", "history/core/1", "items/2", "changes/1"):
+        all_but_workers: tuple[str, ...] = ("forge", "watch", "standby")
+        programs = dict.fromkeys(("status", "running", "history/core/1", "items/2"), all_but_workers)
+        programs |= {"changes/1": (*all_but_workers, "worker"), "builds/1": ("forge", "watch", "worker")}
+        for path, names in programs.items():
             StandIn.heads.clear()
             begin = time.monotonic()
             for name, password in (("alice", None), ("ben", "his")) * 10:
                 self.assertEqual(await self.status(path, name, password), 200)
             # Each is kept for a whole second of nginx's clock, and the second in which it came counts.
             self.assertLessEqual(len(StandIn.heads), time.monotonic() - begin + 2, path)
-            for name in ("forge", "watch", "standby"):
+            for name in names:
                 StandIn.heads.clear()
                 for _ in range(4):
                     self.assertEqual(await self.status(path, name), 200)
                 self.assertEqual(len(StandIn.heads), 4, f"{name} at {path}")
+
+    async def test_nobody_spoils_what_others_share(self) -> None:
+        """A path that is written otherwise is another one to the gate, which has none: what it answers to that isn't
+        given to those who ask for the right one."""
+        self.add("ben", quick_hash("his"))
+        for path, other in (("status", "statu%73"), ("running", "x/../running"), ("changes/1", "changes/%31"),
+                            ("builds/1", "builds//1")):
+            for _ in range(4):
+                self.assertEqual(await self.status(other, "alice"), 404, other)
+                self.assertEqual(await self.status(path, "ben", "his"), 200, path)
 
     async def test_what_is_written_for_the_page_is_for_people(self) -> None:
         """Titles and authors, and the logs of a CI: no program needs them."""
@@ -198,8 +214,9 @@ class Passing(ProxyTest):
             answered, head = await self.head(path, "alice")
             self.assertEqual(answered, 200)
             self.assertIn(f"\r\nContent-Type: {kind}; charset=utf-8\r\n", head)
-            self.assertIn("\r\nContent-Security-Policy: default-src 'none'; script-src 'self'; ", head)
-            self.assertIn("\r\nX-Content-Type-Options: nosniff\r\n", head)
+            for it in (f"Content-Security-Policy: {POLICY}", "X-Content-Type-Options: nosniff",
+                       "Referrer-Policy: no-referrer"):
+                self.assertIn(f"\r\n{it}\r\n", head)
         for path in ("nginx.conf", "other.html", "page.js.bak", ".page.js", "x/../../gate.passwords"):
             self.assertIn(await self.status(path, "alice"), (400, 404), path)
         self.assertEqual(await self.status("", "worker"), 403)

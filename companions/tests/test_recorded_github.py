@@ -8,15 +8,17 @@ import json
 import re
 import time
 import unittest
+from datetime import datetime, timezone
 from typing import Any
 from urllib.parse import urlsplit
 
-from companions.api import KINDS, Api, Unread
+from companions.api import KINDS, Api, ForgeFault, Unread
 from companions.forges import SUCCESS, Place, time_of
 from companions.requests import State
 from companions.tests.recorded.case import ORIGIN, RecordedCase, place_in
 from companions.tests.recorded.readers import github_answers, is_json
 from companions.tests.recorded.replay import Answer
+from companions.tokens import HEADER, Ending
 
 # One review in the text of a list: who, what, when and of which commit, in the order in which GitHub writes them.
 REVIEW = re.compile(r'"user":\{"login":"([^"]+)","id":(\d+).*?"state":"(\w+)".*?"submitted_at":"([^"]+)"'
@@ -206,6 +208,21 @@ class HttpTest(PyGithubCase):
         base = ENTERPRISE if answers[0].path.startswith(ENTERPRISE) else ""
         with contextlib.redirect_stderr(io.StringIO()):
             return Api(self.replay(*answers).url + base, {}).call("GET", answers[0].path.removeprefix(base))
+
+    def test_when_tokens_end(self) -> None:
+        """Each end that was recorded, once: it is told of within a week before, and not earlier."""
+        found = {it.header(HEADER): it for it in github_answers() if it.header(HEADER)}
+        for said, it in found.items():
+            day, clock, zone = said.split(" ")
+            at = datetime.fromisoformat(f"{day}T{clock}{zone.replace('UTC', '+0000')}")
+            told_of = f"the token ends at {at.astimezone(timezone.utc):%Y-%m-%d %H:%M} UTC, in 10 hours"
+            for hours, line in ((10, told_of), (7 * 24 + 1, "")):
+                api, told = Api(self.replay(it).url, {}), io.StringIO()
+                api.ending = Ending(lambda now=at.timestamp() - hours * 3600: now)
+                with contextlib.redirect_stderr(told), contextlib.suppress(ForgeFault):
+                    api.call(it.method, it.path)
+                self.assertEqual(told.getvalue().partition(": make")[0].removeprefix("adapter: "), line, said)
+        self.assertEqual(len(found), 30)
 
     def test_refusals(self) -> None:
         """Each is a fault of its status; some of them are of all that could be asked."""

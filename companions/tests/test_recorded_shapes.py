@@ -5,7 +5,7 @@ from __future__ import annotations
 import json
 import re
 import unittest
-from typing import Any
+from typing import Any, cast
 
 from companions.forges import Place
 from companions.requests import State
@@ -30,7 +30,8 @@ class Shown:
 
     def __init__(self, kind: str, test: unittest.TestCase) -> None:
         forge = test.enterContext(StandInForge(kind))
-        model, form = forge.model, forge.form
+        # Each form has what it shows by names of its own.
+        model, form = forge.model, cast(Any, forge.form)
         model.add(LIB, "ann")
         place = model.open(LIB, ONE, "main", "Add one", "Words")
         review, said = model.approve(place, "ann"), model.comment(place, "ann", "Well")
@@ -111,10 +112,11 @@ class GitLabShownTest(AsRecordedCase):
     def test_names_of_what_is_shown(self) -> None:
         """A library reads the rest by these names."""
         shown = Shown("gitlab", self).of
-        for name, file, structure, more in (
-                ("approvals", "merge_request_approvals.go", "MergeRequestApprovals", {"approved", "user_has_approved"}),
-                ("note", "notes.go", "Note", set()), ("status", "commits.go", "CommitStatus", set()),
-                ("webhook", "projects.go", "ProjectHook", set())):
+        cases: list[tuple[str, str, str, set[str]]] = [
+            ("approvals", "merge_request_approvals.go", "MergeRequestApprovals", {"approved", "user_has_approved"}),
+            ("note", "notes.go", "Note", set()), ("status", "commits.go", "CommitStatus", set()),
+            ("webhook", "projects.go", "ProjectHook", set())]
+        for name, file, structure, more in cases:
             self.assertLessEqual(set(shown[name]) - more, go_members(CLIENT_GO, file, structure), name)
 
 

@@ -13,7 +13,8 @@ from pathlib import Path
 from companions.tests.service import PROGRAM
 
 TOP = Path(__file__).resolve().parents[2]
-PARTS = ("README.md", "CHANGES.md", "companions", "docs", "examples", "bench/release.sh", ".gitignore")
+PARTS = ("README.md", "CHANGES.md", "pyproject.toml", ".flake8", "companions", "docs", "examples", "bench/release.sh",
+         ".gitignore")
 PLACE = "crates/gated/out/gated"
 VERSION = "20261130-110832-"
 DATE = "2026-11-30T11:08:32+00:00"
@@ -99,15 +100,17 @@ class ReleaseTest(unittest.TestCase):
     def look_into(self, archive: Path) -> None:
         name = archive.name.removesuffix(".tar.gz")
         with tarfile.open(archive) as packed:
-            packed.extractall(self.room / "unpacked", filter="data")
+            # This mypy doesn't know the word yet.
+            packed.extractall(self.room / "unpacked", filter="data")  # type: ignore[call-arg]
             members = packed.getmembers()
         self.assertEqual({(it.uid, it.gid, it.uname, it.gname, it.mtime) for it in members},
                          {(0, 0, "", "", 1796036912)})
         names = [it.name for it in members]
-        self.assertEqual(names, sorted(names, key=lambda it: it.split("/")))
+        self.assertEqual([it.split("/") for it in names], sorted(it.split("/") for it in names))
         unpacked = self.room / "unpacked" / name
         self.assertEqual(sorted(it.name for it in unpacked.iterdir()), [
-            "CHANGES.md", "PROVED", "README.md", "SHA256SUMS", "VERSION", "companions", "crates", "docs", "examples"])
+            ".flake8", "CHANGES.md", "PROVED", "README.md", "SHA256SUMS", "VERSION", "companions", "crates", "docs",
+            "examples", "pyproject.toml"])
         self.assertEqual((unpacked / "PROVED").read_text(), f"""\
 version {VERSION}{self.revision[:12]}
 revision {self.revision}
@@ -116,7 +119,8 @@ program {sum_of(self.program)}
 proofs {PROVED}
 tests 1125 passed, 0 failed
 """)
-        listed = dict(reversed(line.split("  ", 1)) for line in (unpacked / "SHA256SUMS").read_text().splitlines())
+        lines = [line.split("  ", 1) for line in (unpacked / "SHA256SUMS").read_text().splitlines()]
+        listed = {file: digest for digest, file in lines}
         there = {str(it.relative_to(unpacked)): sum_of(it) for it in unpacked.rglob("*") if it.is_file()}
         self.assertEqual(there.pop("SHA256SUMS"), sum_of(unpacked / "SHA256SUMS"))
         self.assertEqual(listed, there)

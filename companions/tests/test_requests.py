@@ -4,6 +4,7 @@ from __future__ import annotations
 import unittest
 from dataclasses import replace
 from datetime import datetime, timedelta, timezone
+from typing import Any
 
 from companions.requests import (BEHIND_GAP, GONE, NO_REVISION, Request, Revision, State, Telling, Told, Vote, closing,
                                  first_seen, tellings, uncounted)
@@ -42,14 +43,16 @@ def ada(number: int, approves: bool | None = True, commit: str | None = A) -> Vo
 
 
 def told(of: Told, *approved: Vote, at: int = 1, back: tuple[Vote, ...] = (), seen: tuple[Vote, ...] = (),
-         **more) -> Told:
+         **more: Any) -> Told:
     """What was told, with votes that approved a revision, some of them withdrawn, and others that were seen at it."""
     return replace(of, approvals={it.object: at for it in approved}, withdrawals=frozenset(it.object for it in back),
                    seen={it.object: at for it in (*approved, *seen)}, **more)
 
 
-# What is expected, shortly: `revision 2`, `approved 2 review 1`, `withdrawn 1 review 1 review 3`, `closed 1 merged`.
-REVISIONS = (
+# Of each case its name, the request, what was told of it, what it needs, and what is expected, shortly: `revision 2`,
+# `approved 2 review 1`, `withdrawn 1 review 1 review 3`, `closed 1 merged`.
+Cases = tuple[tuple[str, Request, Told, tuple[int, ...], list[str]], ...]
+REVISIONS: Cases = (
     ("a new request", so(), NOTHING, (), ["revision 1 " + A]),
     ("nothing has changed", so(), ONE, (), []),
     ("a new head", so(head=B), ONE, (), ["revision 2 " + B]),
@@ -68,7 +71,7 @@ REVISIONS = (
      ["revision 2 " + B]),
 )
 
-CLOSINGS = (
+CLOSINGS: Cases = (
     ("closed, and told nothing yet", so(state=State.CLOSED), NOTHING, (), []),
     ("merged, and told nothing yet", so(state=State.MERGED), NOTHING, (), []),
     ("closed, approved, and told nothing yet", so(ADA, state=State.CLOSED), NOTHING, (), []),
@@ -88,7 +91,7 @@ CLOSINGS = (
     ("merged past the gate, and told so", so(state=State.MERGED), replace(ONE, closed=True), (), []),
 )
 
-VOTES = (
+VOTES: Cases = (
     ("approved", so(ADA), ONE, (), ["approved 1 review 1"]),
     ("opened and approved at once", so(ADA), NOTHING, (), ["revision 1 " + A, "approved 1 review 1"]),
     ("looked at again", so(ADA), told(ONE, ADA), (), []),
@@ -120,7 +123,7 @@ VOTES = (
     ("which stays one", so(ADA, is_draft=True), told(ONE, ADA, back=(ADA,)), (), []),
 )
 
-COMMENTS = (
+COMMENTS: Cases = (
     ("a vote without a commit", so(SAID), ONE, (), ["approved 1 comment 4"]),
     ("which is still shown at the next revision", so(SAID, head=B), told(ONE, SAID), (), ["revision 2 " + B]),
     ("and behind that", so(SAID, head=B), told(TWO, SAID), (), []),
@@ -157,7 +160,7 @@ COMMENTS = (
     ("at a head that goes back", so(SAID), told(BACK, SAID), (), []),
 )
 
-GAPS = (
+GAPS: Cases = (
     ("a comment that is first seen behind a gap", so(SAID), replace(ONE, sure=None), (), []),
     ("and looked at again without one", so(SAID), told(ONE, seen=(SAID,), at=-1), (), []),
     ("at a forge that says which commit it was", so(said(60, A)), replace(ONE, sure=None), (), []),
@@ -180,7 +183,7 @@ GAPS = (
      ["approved 1 review 1"]),
 )
 
-WITHDRAWALS = (
+WITHDRAWALS: Cases = (
     ("taken back", so(), told(ONE, ADA), (), ["withdrawn 1 review 1"]),
     ("taken back, and told so", so(), told(ONE, ADA, back=(ADA,)), (), []),
     ("taken back before it was told", so(), told(ONE, seen=(ADA,)), (), []),
@@ -215,7 +218,7 @@ WITHDRAWALS = (
 
 
 class Table(unittest.TestCase):
-    def check(self, cases) -> None:
+    def check(self, cases: Cases) -> None:
         for name, request, known, needs, expected in cases:
             with self.subTest(name):
                 found = tellings(request, known, needs, APPROVERS)

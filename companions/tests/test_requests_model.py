@@ -33,7 +33,7 @@ class Model:
     branch: str = "main"
     state: State = State.OPEN
     votes: list[Vote] = field(default_factory=list)
-    looked_at: dict[str, tuple] = field(default_factory=dict)
+    looked_at: dict[str, tuple[object, ...]] = field(default_factory=dict)
     told: dict[str, Told] = field(default_factory=lambda: {it: Told(at + 1) for at, it in enumerate(GATED)})
     approved: set[str] = field(default_factory=set)
     seen: dict[str, tuple[str, int]] = field(default_factory=dict)

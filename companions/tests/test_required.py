@@ -9,17 +9,16 @@ from typing import Any
 from unittest import mock
 
 from companions.api import ForgeFault
-from companions.github import Gitea, GitHub
-from companions.gitlab import GitLab
+from companions.forms import CLIENTS
 from companions.outbox import Notes
+from companions.reader import SettingsFault
 from companions.requests import Request, State
 from companions.required import Required
-from companions.settings import SettingsFault, read
+from companions.settings import read
 from companions.tests.adapter_case import SETTINGS, Case
 from companions.tests.standin import StandIn
 
 HEAD = "5e1c309dae7f45e0f39b1bf3ac3cd9db12e7d689"
-FORMS: dict[str, Any] = {"github": GitHub, "gitea": Gitea, "gitlab": GitLab}
 RED = ": no approval counts before it has passed"
 
 
@@ -50,12 +49,12 @@ class Forms(unittest.TestCase):
             notes = Notes(Path(folder) / "notes.db")
             try:
                 so = Request("acme/lib", 12, State.OPEN, HEAD, "main", "", "")
-                return Required(names, form, FORMS[form](standin.url, "token", "secret"), notes).unmet(so)
+                return Required(names, form, CLIENTS[form](standin.url, "token", "secret"), notes).unmet(so)
             finally:
                 notes.tables.close()
 
     def test_a_success_is_one_and_nothing_else(self) -> None:
-        for form in FORMS:
+        for form in CLIENTS:
             with self.subTest(form):
                 self.assertEqual(self.unmet(form, [("ci/lint", "success"), ("ci/lint", "failure")], "ci/lint"), [])
                 for word, said in (("failure", "failure"), ("failed", "failed"), ("pending", "pending"),
@@ -67,12 +66,12 @@ class Forms(unittest.TestCase):
                                  [f"ci/lint hasn't come{RED}"])
 
     def test_nothing_is_asked_where_nothing_is_required(self) -> None:
-        for form in FORMS:
+        for form in CLIENTS:
             self.assertEqual((self.unmet(form, []), self.asked), ([], []))
 
     def test_very_many_statuses(self) -> None:
         """Those behind the newest 2,000 aren't read."""
-        for form in FORMS:
+        for form in CLIENTS:
             many = [(f"forged-{it}", "success") for it in range(2500)]
             self.assertEqual(self.unmet(form, [*many, ("ci/lint", "success")], "ci/lint"),
                              [f"ci/lint hasn't come{RED}"])
@@ -108,7 +107,7 @@ class OfTheAdapter(Case):
                 raise said
             return said
 
-        self.adapter.looks.required.unmet = unmet  # type: ignore[method-assign]
+        self.adapter.looks.required.unmet = unmet  # type: ignore[assignment]
 
     def test_an_approval_is_told_once_the_check_has_passed(self) -> None:
         place = self.be(12, 0, self.approve(1))
@@ -149,10 +148,11 @@ class OfTheAdapter(Case):
 
     def test_the_settings(self) -> None:
         file, text = self.folder / "it.toml", SETTINGS.format(folder=self.folder, gate="http://localhost")
-        file.write_text(text.replace("[adapter]", '[adapter]\nrequire = ["ci/unit", "ci/lint"]'))
-        adapter = read(file).adapter
-        assert adapter is not None
-        self.assertEqual(adapter.require, ("ci/lint", "ci/unit"))
+        for line, required in (("", ()), ('require = ["ci/unit", "ci/lint"]', ("ci/lint", "ci/unit"))):
+            file.write_text(text.replace("[adapter]", f"[adapter]\n{line}"))
+            adapter = read(file).adapter
+            assert adapter is not None
+            self.assertEqual(adapter.require, required)
         self.settings = replace(self.settings, adapter=replace(self.settings.adapter, require=("ci/lint",)))
         self.start()
         with mock.patch.object(Required, "of_commit", lambda it, repository, commit: {"ci/lint": []}):

@@ -22,7 +22,8 @@ class Ids(Case):
         """The changes of which nobody could tell by the gate that the ref is what was told, as a lander looks."""
         found = []
         for change, known in self.gate.changes.items():
-            ref = self.origin.git("for-each-ref", "--format=%(objectname)", f"refs/changes/{change}/{known['revision']}")
+            ref = self.origin.git("for-each-ref", "--format=%(objectname)",
+                                  f"refs/changes/{change}/{known['revision']}")
             needs = [it["change"] for it in known["needs"]]
             if revision_id(self.first(), change, known["revision"], ref, needs) not in self.gate.accepted:
                 found.append(f"{change} {known['revision']}")

@@ -94,11 +94,11 @@ class BackupTest(ServiceTest):
         mount.mkdir()
         with disk.open("wb") as image:
             image.truncate(1 << 25)
-        for words in (["mkfs.ext4", "-q", disk], ["mount", "-o", "loop", disk, mount]):
+        for words in (["mkfs.ext4", "-q", str(disk)], ["mount", "-o", "loop", str(disk), str(mount)]):
             ran = subprocess.run(words, capture_output=True, text=True, check=False)
             if ran.returncode != 0:
                 self.skipTest(f"no file system to freeze: {ran.stderr.strip()}")
-        self.addCleanup(subprocess.run, ["umount", "--lazy", mount], check=True)
+        self.addCleanup(lambda: subprocess.run(["umount", "--lazy", mount], check=True))
         file = self.gate("gate.db", LINES[:2])
         gate, address = self.serve(file)
         self.environment["HOLD"] = "1"

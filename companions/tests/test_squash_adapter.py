@@ -11,7 +11,8 @@ from companions.forges import Place
 from companions.ids import revision_id
 from companions.landed_as import KEPT, LandedAs
 from companions.merging import Merge, Parent
-from companions.settings import SettingsFault, read
+from companions.reader import SettingsFault
+from companions.settings import read
 from companions.tests.adapter_case import SETTINGS, Case
 from companions.tests.test_squash import ANN
 from companions.tests.test_squash_hostile import AUTHORS, OTHER, TEXTS

@@ -167,7 +167,7 @@ class Wrong(EvidenceOfSquashed):
         """What it has landed is found afterwards."""
         cases = ((merging, "the gate wasn't told"), (renaming, "its commit isn't the one that these merge to"),
                  (signing, "its commit isn't the one that these merge to"))
-        self.lander.evidence.check = lambda *_: ()  # type: ignore[method-assign]
+        self.lander.evidence.check = lambda *_: ()  # type: ignore[assignment]
         for place, (turn, what) in enumerate(cases, 1):
             self.squash(100 + place)
             shown = self.order(place, 100 + place)

@@ -9,8 +9,8 @@ import tempfile
 import unittest
 from pathlib import Path
 
-from companions.tests.test_operating import (FORGED, OF_A_TRIAL, OF_NO_ADAPTER, PAGE, PROGRAM, STAGE, blocks_of,
-                                             make_stage, script_of)
+from companions.tests.test_operating import (FORGED, OF_A_TRIAL, OF_NO_ADAPTER, PAGE, STAGE, blocks_of, make_stage,
+                                             script_of)
 
 SERVICE = "/usr/local/lib/gated/companions/service"
 # Less than companions/test.sh gives to a test, so that what was printed is shown.

@@ -2,10 +2,7 @@ from __future__ import annotations
 
 import contextlib
 import io
-import subprocess
-import sys
 import unittest
-from pathlib import Path
 from unittest import mock
 
 from companions import adapter, lander, watch
@@ -13,7 +10,6 @@ from companions.settings import Settings
 from companions.starting import hold_of, start
 from companions.tests.test_core import ADAPTER, WHOLE, Case
 
-TOP = Path(__file__).resolve().parents[2]
 MAINS = {"lander": lander.main, "adapter": adapter.main, "watch": watch.main}
 
 
@@ -72,15 +68,6 @@ class Start(Case):
                 with self.subTest(part, words=words):
                     self.assertEqual(self.started(part, *words),
                                      (2, f"usage: python3 -m companions.{part} companions.toml\n"))
-
-    def test_help(self) -> None:
-        """Each program that people begin says what it is for, and how it is begun."""
-        for part in (*MAINS, "worker", "ci", "copies", "fence", "check", "operator", "evidence"):
-            ran = subprocess.run([sys.executable, "-m", f"companions.{part}", "--help"], capture_output=True, text=True,
-                                 cwd=TOP, check=False)
-            with self.subTest(part):
-                self.assertEqual((ran.returncode, ran.stderr), (0, ""))
-                self.assertRegex(ran.stdout, rf"companions\.{part} (?s:.*)companions\.toml")
 
     def test_wrong_settings_are_told(self) -> None:
         self.write(WHOLE.replace("folder =", "folders ="))

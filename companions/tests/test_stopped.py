@@ -9,9 +9,10 @@ from dataclasses import replace
 from pathlib import Path
 from unittest import mock
 
-from companions import answers
+from companions import answers, held
 from companions.answers import Answers
 from companions.gate import Order
+from companions.held import Hold
 from companions.lander import Lander
 from companions.settings import Job, Project, Settings
 from companions.tests.adapter_case import Case
@@ -71,6 +72,17 @@ class Stopped(unittest.TestCase):
         self.assertRegex(self.turn()["core"] or "", "refs/changes/8/1 of lib is gone")
         self.gate.shown = []
         self.assertIsNone(self.turn()["core"])
+
+    def test_a_queue_that_is_held_is_answered_as_such_until_it_is_resumed(self) -> None:
+        self.turn()
+        self.gate.shown = [Order("core", 3, "lib", 7, 1)]
+        held.write(self.settings.folder, {"core": Hold("2026-11-30 12:00 UTC", "a freeze")})
+        for _ in range(2):
+            self.assertEqual(self.turn()["core"], "an operator holds it since 2026-11-30 12:00 UTC: a freeze")
+        self.assertEqual((self.gate.told, self.origin.git("rev-parse", "refs/heads/main")), ([], self.base))
+        held.write(self.settings.folder, {})
+        self.assertIsNone(self.turn()["core"])
+        self.assertEqual([it["kind"] for it in self.gate.told], ["landed"])
 
     def test_an_address_is_told_without_its_password(self) -> None:
         it = Answers(self.folder)

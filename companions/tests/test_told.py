@@ -131,7 +131,6 @@ class Tables(Case):
         self.assertEqual([self.changes.remarks(*it) for it in ((1, "need"), (1, "vote"), (2, "need"))],
                          [["c"], ["d"], []])
 
-
     def test_of_many_votes_the_first_are_dropped_that_were_not_told_and_are_shown_no_more(self) -> None:
         self.keep("revision", 1, A)
         self.keep("approved", 1, "review 1", votes=("review 1",))
@@ -220,7 +219,12 @@ class Again(Case):
             self.keep("approved", 1, f"review {number}")
             ids.append(self.kept()[0][0])
         asked = []
-        known = self.changes.replies_known(lambda it: asked.append(it) or it in ids[:900])
+
+        def knows(it: str) -> bool:
+            asked.append(it)
+            return it in ids[:900]
+
+        known = self.changes.replies_known(knows)
         self.assertEqual((known, len(asked) <= 10), (899, True))
         self.tell_again(known)
         self.assertEqual([it for it, _ in self.kept()], ids[899:])

@@ -10,8 +10,9 @@ from companions.conflicts import Conflict
 from companions.landings import first_text, tag
 from companions.merging import Merge
 from companions.outbox import Notes
+from companions.reader import SettingsFault
 from companions.repository import GitFault, Repository
-from companions.settings import Project, Settings, SettingsFault
+from companions.settings import Project, Settings
 from companions.tests.forge import Origin, earlier_message
 from companions.trees import Build, Made, Trees, UnknownChange, Unreadable, Unset
 
@@ -145,9 +146,10 @@ class Making(TreesCase):
         self.change("lib", 105, {"elsewhere": "105\n"})
         self.change("lib", 106, {"elsewhere": "106\n"})
         self.land("lib", 1, {it: "1\n" for it in files[:4]})
-        for ahead, other, named in (([(104, 1), (105, 1)], 104, "text 0, text 1, text 2 and 2 more"),
-                                    ([(105, 1)], 901, "text 0, text 1, text 2 and 1 more"),
-                                    ([], 901, "text 0, text 1, text 2 and 1 more")):
+        cases: list[tuple[list[tuple[int, int]], int, str]] = [
+            ([(104, 1), (105, 1)], 104, "text 0, text 1, text 2 and 2 more"),
+            ([(105, 1)], 901, "text 0, text 1, text 2 and 1 more"), ([], 901, "text 0, text 1, text 2 and 1 more")]
+        for ahead, other, named in cases:
             with self.subTest(ahead), self.assertRaises(Conflict) as raised:
                 self.make(build(103, 1, ahead))
             self.assertEqual(str(raised.exception), f"change 103, revision 1 (its own) can't be merged into lib: it"

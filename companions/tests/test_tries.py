@@ -55,7 +55,7 @@ class Counted(unittest.TestCase):
                          [again, again, "the forge declines it: at 12:10"])
 
     def test_another_refusal_or_another_revision_counts_anew(self) -> None:
-        said = [self.declined(*it) for it in ((7, "a"), (7, "a"), (7, "b"), (7, "b"), (7, "b", 2), (7, "b", 2))]
+        said = [self.declined(7, *it) for it in (("a", 1), ("a", 1), ("b", 1), ("b", 1), ("b", 2), ("b", 2))]
         self.assertEqual(set(said), {"tried again: git push: no"})
         self.assertEqual(self.declined(7, "b", 2), "the forge declines it: b")
 

@@ -100,8 +100,8 @@ class UpgradeTest(unittest.TestCase):
             + block(now, "groupadd --system gated-git") + block(now, OF_ITS_START) + all_of,
             "evidence": EVIDENCE,
             "back": block(now, OF_WAY_BACK) + STARTED,
-            "new file": block(now, "gated/before-$day") + block(now, "systemctl start gated gated-lander gated-watch"
-                                                                 " gated-worker@w1 gated-worker@w2\nsystemctl start"),
+            "new file": block(now, "gated/before-$day") + block(
+                now, "systemctl start gated gated-lander gated-watch gated-worker@w1 gated-worker@w2\nsystemctl start"),
         }
 
     def test_from_before_the_versions_of_tables(self) -> None:
@@ -109,7 +109,8 @@ class UpgradeTest(unittest.TestCase):
             folder = Path(name) / "stage"
             make_stage(folder, "", "upgrade.py")
             with tarfile.open(fileobj=io.BytesIO(git("archive", self.revision, "companions", "examples"))) as packed:
-                packed.extractall(folder / "former", filter="data")
+                # This mypy doesn't know the word yet.
+                packed.extractall(folder / "former", filter="data")  # type: ignore[call-arg]
             # A program of that time can't be made quickly. Its tables had the same schema.
             (folder / "former" / "crates").symlink_to("../checkout/crates")
             (folder / "typed.json").write_text(json.dumps(self.typed()), encoding="utf-8")

@@ -9,8 +9,10 @@ import json
 import unittest
 import unittest.mock
 from pathlib import Path
+from typing import Any
 
 from companions.answers import Answers
+from companions.compared import Compared, Repository, file_in, write
 from companions.figures import QueueFigures, text_of
 from companions.moments import Moment
 from companions.tests.watch_case import ONE, OTHER, WatchCase
@@ -102,6 +104,20 @@ class WatchTest(WatchCase):
             self.look(1000.0)
             self.assertEqual(self.figure(figure), shown)
 
+    def test_for_how_long_the_adapter_was_blind_is_shown(self) -> None:
+        figure = 'gated_adapter_blind_seconds{repository="acme/lib"}'
+        projects = {"lib": dataclasses.replace(self.settings.projects["lib"], forge="acme/lib")}
+        self.settings = dataclasses.replace(self.settings, projects=projects)
+        self.start_again()
+        self.look(1000.0)
+        self.assertIsNone(self.figure(figure))
+        seen = Repository(0, None, Moment("one", 100.0))
+        write(file_in(self.settings.folder), Compared(None, None, {"acme/lib": seen}, {}))
+        self.assertEqual((self.look(1000.0), self.figure(figure)), ("", "900"))
+        self.assertEqual((self.look(1001.0), self.figure(figure)), (
+            "watch: acme/lib: the adapter hasn't seen it for 901 seconds, so nothing lands in core: its own lines say"
+            " why\n", "901"))
+
     def test_figures_in_a_folder_of_their_own(self) -> None:
         """What can't be written there is told once, and the watch goes on."""
         folder = Path(self.settings.folder) / "figures"
@@ -158,7 +174,9 @@ class WatchTest(WatchCase):
         self.assertEqual(self.figure("gated_builds_lost_total"), "1")
 
     def test_what_is_not_that_build_any_more_is_not_reported(self) -> None:
-        for different in ({"live": False}, {"outcome": "success"}, {"change": 102}, {"revision": 2}, {"job": "docs"}):
+        others: list[dict[str, Any]] = [{"live": False}, {"outcome": "success"}, {"change": 102}, {"revision": 2},
+                                        {"job": "docs"}]
+        for different in others:
             with self.subTest(different):
                 self.gate.give(1)
                 self.look(1000.0)
@@ -248,7 +266,12 @@ class WatchTest(WatchCase):
     def test_a_report_without_an_answer_is_sent_again(self) -> None:
         self.gate.give(1)
         self.look(1000.0)
-        with unittest.mock.patch.object(self.gate, "tell", lambda said: self.gate.told.append(said) or "<html></html>"):
+
+        def tell(said: dict[str, Any]) -> str:
+            self.gate.told.append(said)
+            return "<html></html>"
+
+        with unittest.mock.patch.object(self.gate, "tell", tell):
             self.assertIn("can't report what is lost: no answer of the gate", self.look(1091.0))
         self.assertEqual(self.figure("gated_up"), "1")
         self.look(1092.0)

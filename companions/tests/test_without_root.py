@@ -37,8 +37,8 @@ class WithoutRoot(unittest.TestCase):
             folder.chmod(0o755)
             around = {"PATH": "/usr/local/bin:/usr/bin:/bin", "HOME": str(home), "TMPDIR": str(home),
                       "GATED": str(folder / "gated"), "PYTHONDONTWRITEBYTECODE": "1"}
-            ran = subprocess.run([interpreter(), "-m", "companions.tests.day", "--scene", SCENE], cwd=folder, env=around,
-                                 user=NOBODY, group=NOBODY, extra_groups=[], capture_output=True, text=True,
+            ran = subprocess.run([interpreter(), "-m", "companions.tests.day", "--scene", SCENE], cwd=folder,
+                                 env=around, user=NOBODY, group=NOBODY, extra_groups=[], capture_output=True, text=True,
                                  timeout=500, check=False)
         self.assertEqual((ran.returncode, ran.stdout), (0, f"ok {SCENE}\n"), ran.stderr)
         refused = [it for it in ran.stderr.splitlines() if it.startswith(REFUSED)]

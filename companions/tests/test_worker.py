@@ -221,9 +221,9 @@ class Evidence(WorkerCase):
 
 class Main(WorkerCase):
     def test_a_wrong_call_is_told(self) -> None:
-        for argv in ([], ["companions.toml"], ["companions.toml", "../w1"], ["companions.toml", ""]):
+        for argv in (list[str](), ["companions.toml"], ["companions.toml", "../w1"], ["companions.toml", ""]):
             self.assertEqual(worker.main(argv), 2)
-        self.assertIn(worker.USAGE, self.errors.getvalue())
+        self.assertIn("usage: python3 -m companions.worker companions.toml NAME\n", self.errors.getvalue())
 
     def test_a_fault_of_the_settings_is_told(self) -> None:
         self.assertEqual(worker.main([str(self.folder / "none.toml"), "w1"]), 1)

@@ -30,7 +30,7 @@ class Wanted(WorkerCase):
             self.gate.show(self.gate.taken[take_id], **other)
             return said
 
-        self.gate.take = take  # type: ignore[method-assign]
+        self.gate.take = take  # type: ignore[assignment]
         self.worker.turn()
 
     def test_a_job_ends_whose_build_is_not_live(self) -> None:
@@ -40,8 +40,9 @@ class Wanted(WorkerCase):
         self.assertIn("build 7: not wanted any more", self.errors.getvalue())
 
     def test_a_job_ends_whose_number_means_another_build(self) -> None:
-        for other in ({"change": 104}, {"revision": 2}, {"job": "docs"}, {"after": 1}, {"ahead": [[104, 1]]},
-                      {"queue": "web"}):
+        others: list[dict[str, Any]] = [{"change": 104}, {"revision": 2}, {"job": "docs"}, {"after": 1},
+                                        {"ahead": [[104, 1]]}, {"queue": "web"}]
+        for other in others:
             with self.subTest(other):
                 self.gate = PretendGate([self.reply(7, 103)])
                 self.turn_with(**other)
@@ -68,7 +69,7 @@ class Wanted(WorkerCase):
                 return (status, said) if status else None
             return answer(method, path, body)
 
-        self.gate.answer = proxied  # type: ignore[method-assign]
+        self.gate.answer = proxied  # type: ignore[assignment]
         self.worker.turn()
         self.assertLess(len(silent), 3)
         self.assertEqual(self.outcomes(), [(7, "success")])
@@ -184,7 +185,7 @@ class Killed(WorkerCase):
         self.until(lambda: not runs(running))
 
     def test_a_group_without_the_mark_ends_by_its_note(self) -> None:
-        left = subprocess.Popen(["sleep", "1000"], env={}, start_new_session=True)
+        left = subprocess.Popen(["sleep", "1000"], env=dict[str, str](), start_new_session=True)
         self.addCleanup(left.wait)
         self.addCleanup(left.kill)
         began = job.began_at(left.pid)
