@@ -7,6 +7,8 @@ import { Names } from "./names.js";
 const LATELY = 10;
 const QUESTIONS = 20;
 const NAMES_EVERY = 5;
+/** Milliseconds after a change until no answer is an older one: the proxy keeps each for a second. */
+const SETTLED = 2000;
 /** The most answers that are kept, and of a log the most bytes that are read at first and characters that are shown. */
 const KEPT = 500;
 const LAST = 2 ** 18;
@@ -39,6 +41,8 @@ export class State {
     this.logs = new Map();
     this.followed = null;
     this.version = 0;
+    this.changed = performance.now();
+    this.settled = this.changed;
     this.news = [];
   }
 
@@ -76,13 +80,16 @@ export class State {
 
   async lookAtStatus() {
     const said = await statusText();
-    if (said === this.said && !this.isDoubted) return false;
+    const now = performance.now();
+    if (said !== this.said || this.isDoubted) this.changed = now;
+    else if (!isDue(this.changed, this.settled, now)) return false;
     const status = parse(said);
     for (const queue of status.queues) await this.report(queue, this.queue(queue.name));
     const { builds } = status.queues.some((it) => it.items.length) ? await running() : { builds: [] };
     await this.time(builds);
     this.status = status;
     this.said = said;
+    this.settled = now;
     this.version += 1;
     this.places = new Map(status.queues.flatMap((queue) =>
       queue.items.map((it, at) => [it.change, { queue, it, place: at + 1 }])));
@@ -102,7 +109,10 @@ export class State {
    * was, the gate has another file. */
   async report(queue, before) {
     const known = this.reports.get(queue.name);
-    if (known && !this.isDoubted && isSame(queue, before)) return;
+    const now = performance.now();
+    const isChanged = !known || this.isDoubted || !isSame(queue, before);
+    if (!isChanged && !isDue(known.changed, known.at, now)) return;
+    const changed = isChanged ? now : known.changed;
     const from = known ? Math.max(1, known.count) : await this.first(queue.name);
     const { reports, count, isWhole } = await history(queue.name, from);
     const last = known?.count ? known.last.at(-1) : null;
@@ -118,7 +128,7 @@ export class State {
       return this.report(queue, null);
     }
     if (known) for (const it of reports) this.tell(`${queue.name}: ${this.names.short(it.change)} ${said(it)}`);
-    this.reports.set(queue.name, { count, last: [...(known?.last ?? []), ...reports].slice(-LATELY) });
+    this.reports.set(queue.name, { count, changed, at: now, last: [...(known?.last ?? []), ...reports].slice(-LATELY) });
   }
 
   /** The place from which on the last reports of a queue are shown. */
@@ -223,6 +233,10 @@ function mayChange(key, said) {
   if (key.startsWith("changes/") || said === null) return true;
   return key.startsWith("items/") ? said.verdict === null : said.outcome === "running";
 }
+
+/** Whether it is time to ask once more for what was asked last at a time: just after the change it may have been answered
+ * as it was before. */
+const isDue = (changed, asked, now) => asked - changed < SETTLED && now - changed >= SETTLED;
 
 /** Whether nothing has left a queue since. */
 function isSame(queue, before) {

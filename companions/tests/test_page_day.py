@@ -129,7 +129,7 @@ class DayTest(unittest.TestCase):
         self.assertGreater(compared, 10)
         self.assertGreater(stood, 3)
         self.browser.wait(self.is_the_same)
-        self.check_what_left()
+        self.browser.wait(self.has_what_left)
         shown = json.loads(self.get("requests.json") or "{}")["requests"]
         self.assertGreater(len(shown), 6)
         for it in shown:
@@ -139,10 +139,14 @@ class DayTest(unittest.TestCase):
         self.day.stdin.close()
         self.assertEqual(self.day.wait(60), 0)
 
-    def check_what_left(self) -> None:
-        for queue, says in self.browser.run(LATELY):
-            rows = [line.split() for line in (self.get(f"history/{queue}") or "").splitlines()[1:-1]]
-            self.assertEqual(says, [LEFT[row[4]].format(row[5]) for row in reversed(rows[-10:])])
+    def has_what_left(self) -> bool:
+        """Whether the page says of each queue what left it last. It may lag by the second for which the proxy keeps
+        an answer."""
+        return all(says == self.left(queue) for queue, says in self.browser.run(LATELY))
+
+    def left(self, queue: str) -> list[str]:
+        rows = [line.split() for line in (self.get(f"history/{queue}") or "").splitlines()[1:-1]]
+        return [LEFT[row[4]].format(row[5]) for row in reversed(rows[-10:])]
 
     def check_change(self, it: dict[str, Any]) -> None:
         """The sentence of the adapter, and all builds of its last item."""

@@ -14,6 +14,8 @@ SPANS = """return performance.getEntriesByType("resource").filter((it) => it.ini
 COMES_BACK = "for (let at = 0; at < 20; at += 1) document.dispatchEvent(new Event('visibilitychange'));"
 HIDES = "Object.defineProperty(document, 'hidden', {configurable: true, get: () => true})"
 SHOWS = "delete document.hidden; document.dispatchEvent(new Event('visibilitychange'))"
+# Somebody else asks for something, by the same proxy.
+ASKS = "return fetch(new URL(arguments[0], location.origin), {cache: 'no-store'}).then((it) => it.text())"
 # What each look may ask for: what runs is asked where the status is another one, and names now and then.
 OFTEN = {"/status", "/running", "/running.json", "/requests.json"}
 
@@ -55,6 +57,7 @@ class LooksTest(PageTest):
         self.look()
         self.browser.wait(lambda: self.items("web"))
         for change in range(101, 107):
+            self.await_quiet()
             before = len(self.asked())
             self.approved(change, "app")
             self.browser.wait(lambda: len(self.items("core")) == 1)
@@ -67,6 +70,28 @@ class LooksTest(PageTest):
             if entered <= OFTEN and {it.rpartition("/")[0] for it in left - OFTEN} == {"/history/core", "/items"}:
                 return
         self.fail(f"asked for {entered} where one had entered, and for {left} where it had left")
+
+    def await_quiet(self) -> None:
+        """The page has asked once more for what it asked just after a change."""
+        self.browser.wait(lambda: {path for path, _ in self.asked()[-3:]} <= {"/status", "/requests.json"})
+
+    def test_what_the_proxy_has_kept_is_asked_for_again(self) -> None:
+        """For a second it answers as it did before: somebody has asked just before a change leaves."""
+        for order, there, path, shown, wanted in (
+                (1, "#/", "/history/core/1", ".lately li", "change 101failed its tests: unit failed"),
+                (2, "#/changes/102", "/items/2", "#view p", "Revision 1, failed its tests.")):
+            with self.subTest(there):
+                self.approved(100 + order, "app")
+                build = self.tell(kind="take", worker="w1")["build"]
+                self.look(there)
+                self.await_quiet()
+                self.browser.run(HIDES)
+                # What was under way ends, and no status is kept.
+                time.sleep(3)
+                self.assertNotIn("failed", self.browser.run(ASKS, path).partition('"builds"')[0])
+                self.tell(kind="result", build=build, outcome="failure")
+                self.browser.run(SHOWS)
+                self.browser.wait(lambda at=shown, it=wanted: it in self.browser.text(at), returns=False)
 
     def test_names_that_are_the_same_are_not_sent_again(self) -> None:
         self.approved(101, "lib")
