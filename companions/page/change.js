@@ -17,7 +17,7 @@ export function drawChange(view, state, number) {
   if (known === undefined) parts.push(element("p", {}, "The gate is being asked."));
   else if (known === null) parts.push(element("p", {}, `The gate knows no change ${number}.`));
   else parts.push(...life(known, request, number, state));
-  view.replaceChildren(...parts);
+  view.replaceChildren(...parts.filter((it) => it !== null));
 }
 
 function life(known, request, number, state) {

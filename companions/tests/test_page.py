@@ -139,6 +139,15 @@ class ChangeTest(PageTest):
         self.browser.run("location.hash = '#/changes/999'")
         self.browser.wait(lambda: "The gate knows no change 999." in self.browser.text("#view p"))
 
+    def test_without_an_adapter_it_has_what_the_gate_says(self) -> None:
+        self.approved(101, "lib")
+        self.look("#/changes/101")
+        self.browser.wait(lambda: self.browser.text("#view > section:last-child h3") == ["Tests of item 1"])
+        self.assertEqual(self.browser.text("#view > h2, #view > p"), ["Change 101", "It needs no other change."])
+        # No part of it is a text by itself.
+        parts = "return [...document.getElementById('view').childNodes].map((it) => it.nodeName)"
+        self.assertEqual(self.browser.run(parts), ["H2", "TABLE", "P", "SECTION"])
+
     def test_one_that_left_long_ago_has_its_builds(self) -> None:
         """By the order of its last item, which the adapter says."""
         self.approved(102, "app")
