@@ -132,6 +132,10 @@ class PageTest(ServiceTest):
         return [(request.split()[1], int(rest.split()[0])) for head, request, rest, *_ in rows
                 if head.split()[2:] == [PERSON]]
 
+    def await_quiet(self) -> None:
+        """The page has asked once more for what it asked just after a change."""
+        self.browser.wait(lambda: {path for path, _ in self.asked()[-3:]} <= {"/status", "/requests.json"})
+
     def stop(self) -> None:
         end(self.process)
 

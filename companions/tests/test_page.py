@@ -103,6 +103,7 @@ class QueuesTest(PageTest):
         # Somebody reads far below: what he reads stays before his eyes.
         self.browser.run("window.read = document.querySelectorAll('.train > .item')[700]; window.read.scrollIntoView()")
         self.assertTrue(self.browser.run(SEEN))
+        self.await_quiet()
         before = self.browser.script_seconds()
         self.built("failure")
         self.browser.wait(lambda: self.count() == 999)

@@ -71,10 +71,6 @@ class LooksTest(PageTest):
                 return
         self.fail(f"asked for {entered} where one had entered, and for {left} where it had left")
 
-    def await_quiet(self) -> None:
-        """The page has asked once more for what it asked just after a change."""
-        self.browser.wait(lambda: {path for path, _ in self.asked()[-3:]} <= {"/status", "/requests.json"})
-
     def test_what_the_proxy_has_kept_is_asked_for_again(self) -> None:
         """For a second it answers as it did before: somebody has asked just before a change leaves."""
         for order, there, path, shown, wanted in (
