@@ -15,6 +15,7 @@ import subprocess
 import sys
 
 from judge import refused
+from paged import made, page_in, page_of
 from talk import (
     PROJECTS,
     REFUSALS,
@@ -232,12 +233,12 @@ def ends(program, settings, chances, count):
 
 def deliver(program, settings, chances, count, folder):
     file = f"{folder}/gate"
-    subprocess.run([program, "init", settings, file], check=True)
+    made(program, settings, file)
     sent, answers, counts, used = tell_hostile([program, "deliver", settings, file], chances, count, False)
     rows = rows_in(file)
     wanted = accepted_in(sent, answers)
     assert answers_kept(rows) == wanted, "the kept replies aren't those that were given"
-    told("deliver", counts, f"{len(wanted)} kept; {used}")
+    told("deliver", counts, f"{len(wanted)} kept; {used}; {page_of(file)} a page")
 
 
 def accepted_in(sent, answers):
@@ -350,15 +351,15 @@ def damaged(chances, good):
         at = chances.randrange(len(good))
         bytes_now[at : at + 512] = chances.randbytes(512)
     else:
-        at, other = chances.randrange(len(good)), chances.randrange(len(good))
-        bytes_now[at : at + 4096] = good[other : other + 4096]
+        at, other, page = chances.randrange(len(good)), chances.randrange(len(good)), page_in(good)
+        bytes_now[at : at + page] = good[other : other + page]
     return bytes(bytes_now)
 
 
 def file(program, settings, chances, count, folder):
     """Files that are no longer a gate's. The answers are nowhere promised, but the program ends as it says."""
     whole = f"{folder}/whole"
-    subprocess.run([program, "init", settings, whole], check=True)
+    made(program, settings, whole)
     forge = Forge(chances.randrange(2**32))
     talk = Talk([program, "deliver", settings, whole])
     for _ in range(400):
@@ -392,7 +393,7 @@ def file(program, settings, chances, count, folder):
         for end in ("", "-wal"):
             if os.path.exists(path + end):
                 os.remove(path + end)
-    told("file", counts, f"damaged files of {len(good)} bytes; a second program is refused")
+    told("file", counts, f"damaged files of {len(good)} bytes, {page_in(good)} a page; a second program is refused")
 
 
 OF_HTTP = {
@@ -532,7 +533,7 @@ def hostile_request(chances, forge):
 def serve(program, settings, chances, count, folder):
     """Each client ends its side, so that no request is waited for; those that go early read nothing."""
     kept = f"{folder}/served"
-    subprocess.run([program, "init", settings, kept], check=True)
+    made(program, settings, kept)
     silent, number, connections = 200, 0, 200 + count + 1
     port = Port([program, "serve", settings, kept, "--port", "0", "--count", str(connections)])
     forge = Forge(chances.randrange(2**32))
@@ -566,7 +567,7 @@ def serve(program, settings, chances, count, folder):
     assert re.fullmatch(rb"(gated: I[12] (read|write)\n)*", errors), errors[:500]
     assert port.program.wait() == 0
     rows_in(kept)
-    told("serve", counts, f"answers {dict(sorted(statuses.items(), key=repr))}; {used}")
+    told("serve", counts, f"answers {dict(sorted(statuses.items(), key=repr))}; {used}; {page_of(kept)} a page")
 
 
 PARTS = {"replay": (replay, 1), "deliver": (deliver, 1), "check": (check, 3), "file": (file, 30), "serve": (serve, 3)}

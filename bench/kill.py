@@ -16,6 +16,7 @@ import subprocess
 import sys
 import time
 
+from paged import made, page_of
 from talk import SETTINGS, STATUSES, WORKERS, Ended, Talk, accepted, answers_kept, conversation, rows_in
 
 
@@ -188,7 +189,7 @@ def table_rows(rows):
 def unbroken(program, settings, lines, folder):
     """The rows that one `gated deliver` of all lines leaves, and the seconds that it takes a line."""
     file = f"{folder}/unbroken"
-    subprocess.run([program, "init", settings, file], check=True)
+    made(program, settings, file)
     talk = Talk([program, "deliver", settings, file])
     start = time.monotonic()
     for line in lines:
@@ -207,7 +208,7 @@ def main():
         kept.write(SETTINGS)
     lines, wanted, status = conversation(program, settings, int(seed), count)
     rows, taken = unbroken(program, settings, lines, folder)
-    subprocess.run([program, "init", settings, file], check=True)
+    made(program, settings, file)
     start = {"deliver": Deliver, "serve": Serve}[way]
     client = Client(way, lines, folder)
     for kill in range(kills):
@@ -230,7 +231,7 @@ def main():
     assert answers_kept(final) == accepted(lines, wanted), "the kept replies differ"
     assert table_rows(final) == status_rows(status), "the status differs"
     told = ", ".join(f"{times} {name}" for name, times in client.kills.items())
-    print(f"{way}: {count} lines, {len(final['delivery'])} accepted, {kills + 1} kills: {told}")
+    print(f"{way}: {count} lines, {len(final['delivery'])} accepted, {kills + 1} kills: {told}; {page_of(file)} a page")
     print("ok")
 
 

@@ -13,6 +13,7 @@ import re
 import sys
 
 from deliveries import DELIVERIES, ENTERED, ENTERING, HISTORY, LEAVING, QUEUED_FIRST, told
+from paged import made, page_of, paged
 from starving import AMPLE, Case, Files, Program, Sweep, copy
 from talk import SETTINGS, refusal
 
@@ -115,7 +116,7 @@ class Init(Case):
 
     def run(self, folder, place):
         file = f"{folder}/file"
-        copy(f"{folder}/none", file)
+        copy(self.gate.none, file)
         return self.gate.program.run(["init", self.gate.settings, file], b"", place)
 
     def judge(self, folder, done):
@@ -363,8 +364,9 @@ class Gate:
             kept.write(SETTINGS)
         with open(self.others, "w") as kept:
             kept.write(SETTINGS.replace("window = 4", "window = 5") + OTHERS)
-        self.empty, self.left = f"{folder}/empty", f"{folder}/left"
-        assert program.run(["init", self.settings, self.empty]).is_done(b"")
+        self.none, self.empty, self.left = f"{folder}/none", f"{folder}/empty", f"{folder}/left"
+        paged(self.none)
+        made(program.path, self.settings, self.empty)
         self.make(self.left, LEAVING)
 
     def make(self, file, lines):
@@ -398,6 +400,7 @@ def cases(gate, folder, command):
         yield Adopt(gate, folder, f"{folder}/queued")
     elif command == "migrate":
         copy(f"{EARLIER}/gate.db", f"{folder}/earlier")
+        paged(f"{folder}/earlier")
         yield Migrate(gate, folder, f"{folder}/earlier")
     elif command == "serve":
         yield Post(gate, folder)
@@ -412,6 +415,7 @@ def main():
     path, shim, folder, most, jobs, *chosen = sys.argv[1:]
     gate = Gate(Program(path, shim), folder)
     sweep = Sweep(folder, int(most), int(jobs))
+    print(f"{page_of(gate.empty)} a page", flush=True)
     for command in chosen or gate.commands():
         for case in cases(gate, folder, command):
             sweep.over(case)

@@ -1,6 +1,7 @@
 #!/bin/sh
 # Refuses the program each of its requests for memory in turn, one a run, by a library that is loaded into it: in each
 # command, or in those that are named. PLACES is how many places of each are tried at most, and JOBS how many at a time.
+# PAGE is the bytes of a page of the files, by default the program's: `init` then begins with an empty database.
 set -eu
 . "$(dirname "$0")/program.sh"
 if [ -d /dev/shm ]; then
