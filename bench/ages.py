@@ -4,20 +4,21 @@ import os
 import re
 import subprocess
 import sys
+from collections.abc import Callable
 
-from counted import counted, serving
+from counted import counted, counted_behind, serving
+from paged import made
 
 # Changes whose deliveries are counted in each scene.
 CHANGES = 10
 
-# The bytes of a page of the file, as the program makes it if none are given.
-PAGE = os.environ.get("PAGE", "")
-
+# Of a day: the length of the queue, the lines behind which a line is counted, and up to which, and all lines.
 SIZES = {
-    "whole": {"opening": (1000, 4000, 16000), "age": (1000, 4000, 16000), "length": (10, 100, 900),
-              "waiting": (0, 100, 1000), "chain": (10, 100, 400), "asked": (100, 10000), "running": (10, 100, 997)},
-    "small": {"opening": (10, 20), "age": (10, 20), "length": (10, 20), "waiting": (0, 10), "chain": (10, 20),
-              "asked": (10, 20), "running": (10, 20)},
+    "whole": {"day": ((10, 1000, 5000, 20000), (1000, 5000, 9000, 20000)), "opening": (1000, 4000, 16000),
+              "age": (100, 10000), "length": (10, 100, 990), "waiting": (0, 100, 1000), "chain": (10, 100, 1000),
+              "asked": (100, 10000), "running": (10, 100, 997)},
+    "small": {"day": ((10, 50, 100, 200),), "opening": (10, 20), "age": (10, 20), "length": (10, 20),
+              "waiting": (0, 10), "chain": (10, 20), "asked": (10, 20), "running": (10, 20)},
 }
 
 
@@ -32,9 +33,7 @@ class Gate:
         for end in ("", "-wal", "-shm"):
             if os.path.exists(self.file + end):
                 os.remove(self.file + end)
-        if PAGE:
-            subprocess.run(["sqlite3", self.file, f"PRAGMA page_size = {PAGE}; VACUUM;"], check=True)
-        subprocess.run([program, "init", settings, self.file], check=True, capture_output=True)
+        made(program, settings, self.file)
 
     def lines(self, deliveries):
         """Deliveries as lines, each under an id of its own."""
@@ -55,9 +54,11 @@ class Gate:
     def count(self, deliveries, behind=()):
         """What deliveries cost, without opening the file and those that they come behind, and the replies. Those are
         sent twice."""
-        idle, _ = counted(self.words(), self.lines(behind), self.profile)
-        busy, output = counted(self.words(), self.lines([*behind, *deliveries]), self.profile)
-        replies = [json.loads(line) for line in output.splitlines()][len(behind):]
+        before = self.lines(behind).splitlines(keepends=True)
+        idle, _ = counted_behind(self.words(), before, b"", self.profile)
+        before = self.lines(behind).splitlines(keepends=True)
+        busy, output = counted_behind(self.words(), before, self.lines(deliveries), self.profile)
+        replies = [json.loads(line) for line in output.splitlines()]
         refused = [reply for reply in replies if "error" in reply]
         if refused:
             raise SystemExit(f"refused: {refused[0]}")
@@ -174,10 +175,28 @@ def kinds(gate, orders, line):
         print(f"{line:28} {kind:9} {cost}", flush=True)
 
 
+def day(make: Callable[[], Gate], size: tuple[int, int, int, int]) -> None:
+    """A line of a generated day, what opening the file costs at its end, and how large it is."""
+    length, first, last, count = size
+    mix = os.path.join(os.path.dirname(os.path.abspath(__file__)), "mix.py")
+    gate = make()
+    path = gate.file + ".lines"
+    subprocess.run([sys.executable, mix, gate.program, gate.settings, str(count), str(length), path], check=True)
+    with open(path, "rb") as file:
+        lines = file.read().splitlines(keepends=True)
+    idle, _ = counted_behind(gate.words(), lines[:first], b"", gate.profile)
+    gate = make()
+    busy, _ = counted_behind(gate.words(), lines[:first], b"".join(lines[first:last]), gate.profile)
+    said = f"a day, a queue of {length}".ljust(28)
+    print(said, f"a line, {first} to {last}", busy.over(idle, last - first), flush=True)
+    subprocess.run(gate.words(), input=b"".join(lines[last:]), capture_output=True, check=True)
+    print(said, f"opening, {len(lines)} lines", gate.opening(), f"{os.path.getsize(gate.file)} bytes", flush=True)
+
+
 def opening(make, size):
     gate = make()
     live(gate, size)
-    print(f"opening, {size} landed".ljust(28), gate.opening(), flush=True)
+    print(f"opening, {size} landed".ljust(28), gate.opening(), f"{os.path.getsize(gate.file)} bytes", flush=True)
 
 
 def age(make, size):
@@ -245,8 +264,8 @@ def running(make, size):
         print(f"{size} running".ljust(28), f"{name:26}", cost, flush=True)
 
 
-CASES = {"opening": opening, "age": age, "length": length, "waiting": waiting, "chain": chain, "asked": asked,
-         "running": running}
+CASES = {"day": day, "opening": opening, "age": age, "length": length, "waiting": waiting, "chain": chain,
+         "asked": asked, "running": running}
 
 
 def main(program, settings, folder, sizes, cases):

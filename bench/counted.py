@@ -28,7 +28,7 @@ class Counted:
         return Counted(self.instructions / count, self.reads / count, self.writes / count)
 
     def __str__(self):
-        return f"{self.instructions / 1e6:.2f} million ({self.reads:.1f} reads, {self.writes:.1f} writes)"
+        return f"{self.instructions / 1e6:.3f} million ({self.reads:.1f} reads, {self.writes:.1f} writes)"
 
 
 def names(lines):
@@ -48,8 +48,8 @@ def calls(lines):
             yield called, int(match.group(1))
 
 
-def callgrind(words, profile):
-    return ["valgrind", "--tool=callgrind", f"--callgrind-out-file={profile}", *words]
+def callgrind(words: list[str], profile: str, *options: str) -> list[str]:
+    return ["valgrind", "--tool=callgrind", f"--callgrind-out-file={profile}", *options, *words]
 
 
 def read(profile):
@@ -70,6 +70,23 @@ def counted(words, lines, profile, status=0):
     if done.returncode != status:
         raise SystemExit(f"{words} ended with {done.returncode}: {done.stderr[-500:]}")
     return read(profile), done.stdout
+
+
+def counted_behind(words: list[str], before: list[bytes], lines: bytes, profile: str) -> tuple[Counted, bytes]:
+    """What the program makes of lines on its input, and of its end, once it has answered each line before. Until then
+    nothing is counted, which is much faster. It refuses the very first line when the file is open."""
+    with subprocess.Popen(callgrind(words, profile, "--instr-atstart=no"), stdin=subprocess.PIPE,
+                          stdout=subprocess.PIPE, stderr=subprocess.PIPE) as program:
+        assert program.stdin and program.stdout
+        for line in [b"no delivery\n", *before]:
+            program.stdin.write(line)
+            program.stdin.flush()
+            program.stdout.readline()
+        subprocess.run(["vgdb", f"--pid={program.pid}", "instrumentation", "on"], check=True, capture_output=True)
+        output, errors = program.communicate(lines)
+        if program.returncode != 0:
+            raise SystemExit(f"{words} ended with {program.returncode}: {errors[-500:]}")
+    return read(profile), output
 
 
 def serving(words, requests, profile):
