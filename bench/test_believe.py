@@ -4,13 +4,12 @@ from __future__ import annotations
 import contextlib
 import io
 import re
-import tempfile
 import unittest
-from pathlib import Path
 
 from bench import believe
 from bench.believe import Believed
 from bench.promised import EXAMPLES, LANDS, NONE, PROMISES
+from bench.written import written
 
 FILES = {
     "crates.txt": "# the lowest last\nhigh: low\nlow:\n",
@@ -120,13 +119,7 @@ DELIVER = "high.gate.deliver"
 
 class Small(unittest.TestCase):
     def setUp(self) -> None:
-        folder = tempfile.TemporaryDirectory()
-        self.addCleanup(folder.cleanup)
-        self.top = Path(folder.name)
-        for path, text in FILES.items():
-            file = self.top / path
-            file.parent.mkdir(parents=True, exist_ok=True)
-            file.write_text(text, encoding="utf-8")
+        self.top = written(self, FILES)
         self.believed = Believed(self.top)
 
     def names(self, *addresses: str) -> list[tuple[str, int]]:

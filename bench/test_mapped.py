@@ -3,12 +3,11 @@ from __future__ import annotations
 
 import contextlib
 import io
-import tempfile
 import unittest
-from pathlib import Path
 from unittest import mock
 
 from bench import mapped
+from bench.written import put, written
 
 MAP = """# Architecture
 
@@ -67,22 +66,13 @@ WORDS = {"a form of forge": "gitea github gitlab"}
 
 class Small(unittest.TestCase):
     def setUp(self) -> None:
-        folder = tempfile.TemporaryDirectory()
-        self.addCleanup(folder.cleanup)
-        self.top = Path(folder.name)
-        for path, text in FILES.items():
-            self.put(path, text)
+        self.top = written(self, FILES)
         self.enterContext(mock.patch.object(mapped, "TYPES", TYPES))
         self.enterContext(mock.patch.object(mapped, "WORDS", WORDS))
 
-    def put(self, path: str, text: str) -> None:
-        file = self.top / path
-        file.parent.mkdir(parents=True, exist_ok=True)
-        file.write_text(text, encoding="utf-8")
-
     def lists(self, old: str = "", new: str = "") -> dict[str, list[str]]:
         self.assertIn(old, MAP)
-        self.put("docs/ARCHITECTURE.md", MAP.replace(old, new) if old else MAP)
+        put(self.top / "docs/ARCHITECTURE.md", MAP.replace(old, new) if old else MAP)
         return {kind: rows for kind, rows in mapped.Map(self.top).lists().items() if rows}
 
     def test_a_map_that_is_right(self) -> None:
@@ -112,21 +102,21 @@ class Small(unittest.TestCase):
         for old, new, said in cases:
             with self.subTest(said):
                 self.assertEqual(self.lists(old, new), {"missing": [f"a verdict: {said}: each variant of Verdict"]})
-        self.put("crates/high/src/other.rt", "let n = match v {\n    Verdict::Landed { at } => at,\n"
-                 "    Verdict::Failed(n) => n,\n};\n")
+        put(self.top / "crates/high/src/other.rt",
+            "let n = match v {\n    Verdict::Landed { at } => at,\n    Verdict::Failed(n) => n,\n};\n")
         self.assertEqual(self.lists(), {"missing": ["a verdict: crates/high/src/other.rt: each variant of Verdict"]})
 
     def test_places_of_texts(self) -> None:
-        self.put("examples/some.py", "'gitea', \\'github\\', 'gitlab'\n")
+        put(self.top / "examples/some.py", "'gitea', \\'github\\', 'gitlab'\n")
         self.assertEqual(self.lists(), {"missing": ["a form of forge: examples/some.py: gitea github gitlab"]})
 
     def test_a_file_that_has_nothing_of_it(self) -> None:
-        self.put("crates/high/src/gate.rt", "fn is_in() -> bool {\n    true\n}\n")
+        put(self.top / "crates/high/src/gate.rt", "fn is_in() -> bool {\n    true\n}\n")
         self.assertEqual(self.lists(), {"idle": ["a verdict: crates/high/src/gate.rt"]})
 
     def test_the_status(self) -> None:
         for text, status in ((MAP, 0), (MAP.replace("`words.py`", "`words.js`"), 1)):
-            self.put("docs/ARCHITECTURE.md", text)
+            put(self.top / "docs/ARCHITECTURE.md", text)
             with self.subTest(status), contextlib.redirect_stdout(io.StringIO()) as out:
                 self.assertEqual(mapped.main(self.top), status)
                 self.assertEqual(out.getvalue().splitlines()[0], f"{status} absent")

@@ -3,11 +3,10 @@ from __future__ import annotations
 
 import contextlib
 import io
-import tempfile
 import unittest
-from pathlib import Path
 
 from bench import names
+from bench.written import written
 
 FILES = {
     "low/specs/Lib.antt": "pub mod Words\n",
@@ -140,13 +139,7 @@ fn main()
 
 class Listed(unittest.TestCase):
     def setUp(self) -> None:
-        folder = tempfile.TemporaryDirectory()
-        self.addCleanup(folder.cleanup)
-        self.top = Path(folder.name)
-        for path, text in FILES.items():
-            file = self.top / "crates" / path
-            file.parent.mkdir(parents=True, exist_ok=True)
-            file.write_text(text, encoding="utf-8")
+        self.top = written(self, {f"crates/{path}": text for path, text in FILES.items()})
         self.names = names.Names(self.top)
 
     def put(self, path: str, old: str, new: str) -> None:
