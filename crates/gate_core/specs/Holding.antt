@@ -1,12 +1,12 @@
 -- When a gate holds a content, and what calls leave of it.
 use Rattle.std.specs.Prelude.{List}
 use Rattle.gate_types.specs.Forms.{IsLawfulContent}
-use Rattle.gate_types.specs.Once.{Content}
+use Rattle.gate_types.specs.Once.{Content, empty}
 use Rattle.gate_types.specs.Settings.{Settings}
 use Rattle.gate_book_trait.specs.Kept.{IsKept, OfHeldUnder}
 use Rattle.gate_core.specs.declared.gate.Gate.{Gate}
 use Rattle.gate_core.specs.declared.recent.Recent.{Recent}
-use Rattle.gate_core.specs.Recent.{IsTrueOf}
+use Rattle.gate_core.specs.Recent.{IsTrueOf, KeepsNothing}
 
 -- the settings that a gate goes by
 abbrev pub settings_of : {B : Type 0} → Gate B → Settings
@@ -25,6 +25,11 @@ pub record GateHolds {B : Type 0} (holds : B → Settings → Content → Type 0
     : Type 0 where
   pub book : holds (book_of g) (settings_of g) x
   pub recent : IsLawfulContent (settings_of g) x → IsTrueOf (recent_of g) (settings_of g) x
+
+-- a gate that was just made, over a book that holds no delivery
+pub record IsNew {B : Type 0} (holds : B → Settings → Content → Type 0) (g : Gate B) : Type 0 where
+  pub book : holds (book_of g) (settings_of g) (empty (settings_of g))
+  pub recent : KeepsNothing (recent_of g)
 
 -- what is so of each lawful content that the gate held, if its book is trusted as the call ends
 abbrev pub OfGate : {B : Type 0} → (B → Type 0) → (B → Settings → Content → Type 0) → Gate B → Gate B →

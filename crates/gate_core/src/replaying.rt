@@ -2,15 +2,17 @@
 ghost use Rattle.std.specs.Prelude.{◌≡◌, ℕ, List, OnOk, IfOk, IsErrOf, true, false, length};
 ghost use Rattle.std.specs.Io.Iter.{u64_saturate};
 ghost use Rattle.gate_types.specs.Tap.{inside, has_failed, Gave, IsReadOut, Took};
-ghost use Rattle.gate_types.specs.Gated.{Gated};
+ghost use Rattle.gate_types.specs.Gated.{Gated, opened};
+ghost use Rattle.gate_core.specs.Holding.{IsNew, book_of, settings_of};
 ghost use Rattle.gate_core.specs.Lines.{whole_lines, lines_of, ReadFor};
-ghost use Rattle.gate_core.specs.Replies.{Marked, CallsAreAnswered};
+ghost use Rattle.gate_core.specs.Replies.{Marked, CallsAreAnswered, Replayed};
 ghost use Rattle.gate_core.specs.Held.{Goes, CutOver, ReplayedOver};
 
 use crate::engine::answer_lines;
 use crate::fault::ReplayFault;
 use crate::gate::Gate;
 use gate_book_trait::Book;
+use gate_laws::{forms, runs, typed};
 use gate_types::tap::Tap;
 use std::alloc::Global;
 use std::io::{Read, Write};
@@ -38,6 +40,12 @@ pub fn replay<B: Book, R: Read, W: Write>(
         × Goes B.IsTrusted B.Holds gate.old gate.new
         (ReplayedOver B.LeavesOneOf gate.old gate.new (lines_of input) text)
         × (n ≡ u64_saturate (length (lines_of input)))) }
+    // by a gate that was just made they are answered as by the plain gate
+    ensures anew { IfOk result (λ n. IsNew B.Holds gate.old → B.IsTrusted (book_of gate.new) →
+        (input : List ℕ) × Gave R.remaining r.old r.new input × IsReadOut R.remaining r.new
+        × (text : List ℕ) × Took W.contents w.old w.new text
+        × (after : Gated) × Replayed (opened (settings_of gate.old)) (lines_of input) text after
+        × B.Holds (book_of gate.new) (settings_of gate.old) after.content) }
     // the lines before the one that the error cut
     ensures read { IsErrOf result ReplayFault.Read → (front : List ℕ)
         × Gave R.remaining r.old r.new front
@@ -57,6 +65,10 @@ pub fn replay<B: Book, R: Read, W: Write>(
     ensures writer_failed { IsErrOf result ReplayFault.Write →
         (has_failed r.new ≡ false) × (has_failed w.new ≡ true) }
 {
+    gate.config.show_sound();
+    runs::start_is_lawful();
+    forms::empty_is_in_form();
+    typed::settings_are_in_form(&gate.config);
     answer_lines(alloc, gate, r, w)
 }
 
