@@ -78,7 +78,7 @@ static void prepare_all(void)
     put_fast = prepared("INSERT INTO item_fast (serial) VALUES (?)");
     put_landing = prepared("INSERT INTO landing (queue, n, serial, change, revision) VALUES (?,?,?,?,?)");
     put_report = prepared("INSERT INTO report (queue, place, serial, change, revision, verdict, n) VALUES (?,?,?,?,?,?,?)");
-    put_build = prepared("INSERT OR REPLACE INTO build (num, queue, serial, change, revision, job, base, ahead, outcome, live)"
+    put_build = prepared("INSERT INTO build (num, queue, serial, change, revision, job, base, ahead, outcome, live)"
                          " VALUES (?,?,?,?,?,?,?,?,?,?)");
     set_outcome = prepared("UPDATE build SET outcome = ? WHERE num = ?");
     stop_build = prepared("UPDATE build SET live = 0 WHERE num = ?");

@@ -1,9 +1,9 @@
 -- What an INSERT that ends well says of the rows that were there.
-use Rattle.std.proofs.Common.{◌≡◌, ◌≤◌, ◌<◌, ℕ, zero, suc, pos, List, [], ◌∷◌, map, filter, length, take, ltb, Bool}
-use Rattle.std.proofs.Common.{true, false, not, cond, ◌&&◌, eqb, Ok, refl, sym, ap, subst, ◌∙◌, arith, append-nil}
+use Rattle.std.proofs.Common.{◌≡◌, ◌≤◌, ◌<◌, ℕ, zero, suc, pos, List, [], ◌∷◌, filter, length, take, ltb, Bool}
+use Rattle.std.proofs.Common.{true, false, not, cond, ◌&&◌, eqb, Ok, refl, sym, subst, arith, append-nil}
 use Rattle.std.proofs.Common.{is_eq}
 use Rattle.std.specs.List.{AllByRecursion, list_any}
-use Rattle.std.proofs.lemmas.Bool.{and_parts, not-true, or_parts}
+use Rattle.std.proofs.lemmas.Bool.{and_parts, not-true}
 use Rattle.std.proofs.lemmas.Bool.Decides.{nat_tests}
 use Rattle.sqlite.specs.Cast.{cast_row}
 use Rattle.sqlite.specs.Command.TheVariants.{Insert}
@@ -26,29 +26,16 @@ use Rattle.gate_schema.specs.Rows.{Stored, item_key, item_row, job_columns, land
 use Rattle.gate_schema.specs.Edits.{add_jobs, job_rows}
 use Rattle.gate_schema.specs.Schema.{gate_schema, item_at}
 use Rattle.gate_schema.proofs.ItemTable.{add_item_is, add_item_sql, add_item_terms, is_of, item_params}
-use Rattle.gate_schema.proofs.ChangeLemmas.{one_keyed}
+use Rattle.gate_schema.proofs.ChangeLemmas.{none_has, one_keyed}
 use Rattle.gate_schema.proofs.JobTable.{add_job_is, add_job_sql, add_job_terms, adds_job}
 use Rattle.gate_schema.proofs.LandingTable.{add_landing_is, add_landing_sql, add_landing_terms, adds_landing}
 use Rattle.gate_schema.proofs.ReportTable.{add_report_is, add_report_sql, add_report_terms, adds_report}
 use Rattle.gate_schema.proofs.RowLemmas.{cast_int, cast_null, cast_or_null}
-use Rattle.gate_schema.proofs.ValueLemmas.{value_cmp-pos}
 use Rattle.gate_schema.proofs.WriteLemmas.{inserts}
 use Rattle.gate_rows.specs.Matches.{IsFree}
 use Rattle.gate_rows.proofs.UniqueLemmas.{job_place_free, landing_place_free, report_place_free}
 
 -- ---- items
-
--- SQL's order of serials tells where they are equal
-is_serial : (m n : ℕ) → is_eq (value_cmp (Int (pos m)) (Int (pos n))) ≡ eqb m n
-is_serial m n = ap is_eq (value_cmp-pos m n) ∙ grind (arith, nat_tests)
-
--- a rowid that no row has is the serial of no item
-none_taken : (n : ℕ) (ys : List ItemRow) → list_any (λ (r : Row). is_eq (value_cmp (rowid r) (Int (pos n)))) (map item_row ys) ≡ false
-    → AllByRecursion (λ (y : ItemRow). eqb y.item.serial n ≡ false) ys
-none_taken n [] none = tt
-none_taken n (y ∷ ys) none =
-    let parts = or_parts _ _ none in
-    (sym (is_serial y.item.serial n) ∙ parts.0, none_taken n ys parts.1)
 
 -- an INSERT of an item finds no item of its serial
 pub serial_free : (x : ItemRow) (old new : State) (count : ℕ) → IsReady old → ExecutesInside 0 add_item_sql (item_params x) old new (Ok count)
@@ -62,7 +49,7 @@ serial_free x old new count ready h b named stands =
     let one : are_fresh (old.now.trees 11) (with_rowid Chosen (old.now.trees 11) (cast_row (item_at 11) (item_row x)) ∷ []) ≡ true = rw rows at e.2.applies.fresh in
     let fresh : are_fresh (old.now.trees 11) (item_row x ∷ []) ≡ true =
     subst (λ r. are_fresh (old.now.trees 11) (with_rowid Chosen (old.now.trees 11) r ∷ []) ≡ true) stored one in
-    none_taken x.item.serial b.items
+    none_has item_key item_row (λ y. refl) x.item.serial b.items
     (subst (λ rs. list_any (λ (r : Row). is_eq (value_cmp (rowid r) (Int (pos x.item.serial)))) rs ≡ false) stands.item.rows_are (not-true _ (and_parts _ _ fresh).0))
 
 -- where no item of a serial is left once that of a queue is taken out, no other queue has one

@@ -16,8 +16,8 @@ use sqlite::{Alter, Error, Transaction};
 use std::alloc::Global;
 
 /// Makes an edit. Any Err is of the store, of memory, of a number that no column can hold, of a plan without
-/// jobs, or of a row whose key is taken: a landing, a report, a plan or a delivery that is there, or an item of
-/// another queue.
+/// jobs, or of a row whose key is taken: a landing, a report, a build, a plan or a delivery that is there, or an
+/// item of another queue.
 pub fn apply_one<S: Alter>(
     alloc: Global,
     tx: &mut Transaction<'_, S>,

@@ -13,24 +13,13 @@ use gate_types::records::{Build, Outcome};
 use sqlite::{Alter, Error, ErrorCode, Transaction};
 use std::alloc::Global;
 
-/// Takes a build out.
-fn drop_build<S: Alter>(tx: &mut Transaction<'_, S>, n: BuildNo) -> Result<(), Error>
-    ensures same_reference { tx.new.conn.ghost_name ≡ tx.old.conn.ghost_name }
-    ensures changes { Makes (state S.Store tx.old.conn.now) (state S.Store tx.new.conn.now) result
-        (edits.drop_build n) }
-    ensures kept { Keeps (state S.Store tx.old.conn.now) (state S.Store tx.new.conn.now) }
-    ensures crash { LeavesNothing (state S.Store tx.old.conn.now) (state S.Store tx.new.conn.now) }
-{
-    run(tx, "DELETE FROM build WHERE num = ?1", &[build(n)])
-}
-
-/// Adds a build, whose number no build has. An Err where no column can hold the number of landings
-/// that it runs on.
+/// Adds a build, with the text of what is ahead of it. An Err where a build has its number, or no column can hold the
+/// number of landings that it runs on.
 fn add_build<S: Alter>(tx: &mut Transaction<'_, S>, b: &Build, ahead: &str) -> Result<(), Error>
     requires told { ahead.now ≡ ahead_text b.now.ahead }
     ensures same_reference { tx.new.conn.ghost_name ≡ tx.old.conn.ghost_name }
     ensures changes { Makes (state S.Store tx.old.conn.now) (state S.Store tx.new.conn.now) result
-        (edits.add_build b.now) }
+        (λ c. edits.add_build b.now (edits.drop_build b.now.number c)) }
     ensures kept { Keeps (state S.Store tx.old.conn.now) (state S.Store tx.new.conn.now) }
     ensures crash { LeavesNothing (state S.Store tx.old.conn.now) (state S.Store tx.new.conn.now) }
 {
@@ -55,25 +44,8 @@ fn add_build<S: Alter>(tx: &mut Transaction<'_, S>, b: &Build, ahead: &str) -> R
     )
 }
 
-/// A build, in place of the old one, with the text of what is ahead of it.
-fn put_build_with<S: Alter>(
-    tx: &mut Transaction<'_, S>,
-    b: &Build,
-    ahead: &str,
-) -> Result<(), Error>
-    requires told { ahead.now ≡ ahead_text b.now.ahead }
-    ensures same_reference { tx.new.conn.ghost_name ≡ tx.old.conn.ghost_name }
-    ensures changes { Makes (state S.Store tx.old.conn.now) (state S.Store tx.new.conn.now) result
-        (λ c. edits.add_build b.now (edits.drop_build b.now.number c)) }
-    ensures kept { Keeps (state S.Store tx.old.conn.now) (state S.Store tx.new.conn.now) }
-    ensures crash { LeavesNothing (state S.Store tx.old.conn.now) (state S.Store tx.new.conn.now) }
-{
-    drop_build(tx, b.number)?;
-    add_build(tx, b, ahead)
-}
-
-/// A build, in place of the old one. An Err where memory is refused, or no column can hold the number
-/// of landings that it runs on.
+/// A build, where none has its number. An Err where one has, where memory is refused, or where no column can hold the
+/// number of landings that it runs on.
 pub(crate) fn put_build<S: Alter>(
     alloc: Global,
     tx: &mut Transaction<'_, S>,
@@ -88,7 +60,7 @@ pub(crate) fn put_build<S: Alter>(
     let Ok(ahead) = write_ahead(alloc, b.ahead.as_slice()) else {
         return Err(Error::SqliteFailure(ErrorCode::OutOfMemory));
     };
-    put_build_with(tx, b, ahead.as_str())
+    add_build(tx, b, ahead.as_str())
 }
 
 /// The outcome of a build.

@@ -1,12 +1,14 @@
 -- The builds: what each statement on them means, and what it makes of what the tables hold.
-use Rattle.std.proofs.Common.{◌≡◌, ◌≤◌, ℕ, pos, List, [], ◌∷◌, map, filter, length, false, not, Ok, codes, refl, sym}
-use Rattle.std.proofs.Common.{ap, subst, ◌∙◌, eqb}
+use Rattle.std.proofs.Common.{◌≡◌, ◌≤◌, ℕ, pos, List, [], ◌∷◌, map, filter, length, true, false, not, Ok, codes, refl}
+use Rattle.std.proofs.Common.{sym, ap, subst, ◌∙◌, eqb, is_eq}
+use Rattle.std.specs.List.{list_any}
+use Rattle.std.proofs.lemmas.Bool.{and_parts, not-true}
 use Rattle.std.proofs.lemmas.List.{length-map}
 use Rattle.sqlite.specs.Cast.{cast_row}
-use Rattle.sqlite.specs.Command.TheVariants.{Insert, Delete, Update}
-use Rattle.sqlite.specs.Edit.{edit_of, edited, with_rowid}
+use Rattle.sqlite.specs.Command.TheVariants.{Insert, Update}
+use Rattle.sqlite.specs.Edit.{are_fresh, edit_of, edited, with_rowid}
 use Rattle.sqlite.specs.Listing.{understood}
-use Rattle.sqlite.specs.Order.{Row}
+use Rattle.sqlite.specs.Order.{Row, value_cmp}
 use Rattle.sqlite.specs.Program.{overlay}
 use Rattle.sqlite.specs.Query.{Query}
 use Rattle.sqlite.specs.Rowids.TheVariants.{Chosen}
@@ -17,7 +19,7 @@ use Rattle.sqlite.specs.declared.types.Value.TheVariants.{Null, Int, Text as Wor
 use Rattle.sqlite.proofs.Callers.{runs_as, statement_of}
 use Rattle.sqlite_schema.specs.declared.program.Program.{Program}
 use Rattle.sqlite_keyed.specs.Keyed.{insert_by}
-use Rattle.sqlite_keyed.proofs.ListLemmas.{filter-map, filter_same}
+use Rattle.sqlite_keyed.proofs.ListLemmas.{all_weaker, filter-map, filter_all, filter_same}
 use Rattle.sqlite_tied.proofs.RuleLemmas.{and_true}
 use Rattle.sqlite_tied.specs.Compute.{everything}
 use Rattle.sqlite_trees.specs.Tree.{rowid, put_row}
@@ -30,15 +32,14 @@ use Rattle.gate_schema.specs.Rows.{IsReady, Changes, IsKeyed, bit, build_row, bu
 use Rattle.gate_schema.specs.Schema.{gate_schema, build_at}
 use Rattle.gate_schema.specs.AheadText.{ahead_text}
 use Rattle.gate_types.specs.BuildText.{outcome_word}
-use Rattle.gate_schema.proofs.ChangeLemmas.{changed, keyed_put, keyed_without, keyed_numbered, keyed_changed}
+use Rattle.gate_schema.proofs.ChangeLemmas.{changed, keyed_put, keyed_numbered, keyed_changed, none_has}
 use Rattle.gate_schema.proofs.ChangeLemmas.{one_keyed, updated_rows}
-use Rattle.gate_schema.proofs.DeleteLemmas.{deleted_ids, leaves_others}
 use Rattle.gate_schema.proofs.QueryLemmas.{over_table, passes, shows_few}
 use Rattle.gate_schema.proofs.RowLemmas.{cast_int, cast_null, int_cast, out, renewed, written_update}
 use Rattle.gate_schema.proofs.Statements.{Is, key_is, no_limit}
 use Rattle.gate_schema.proofs.TableLemmas.{others_stay, with_builds}
 use Rattle.gate_schema.proofs.ValueLemmas.{equal_numbers}
-use Rattle.gate_schema.proofs.WriteLemmas.{inserts, deletes, updates}
+use Rattle.gate_schema.proofs.WriteLemmas.{inserts, updates}
 
 -- ---- a build added
 
@@ -55,8 +56,9 @@ add_build_is = (refl, (refl, refl))
 abbrev pub build_params : Build → Row
 build_params x = Int (pos x.number) ∷ Words x.queue ∷ Int (pos x.serial) ∷ Int (pos x.change) ∷ Int (pos x.revision) ∷ Words x.job ∷ Int (pos x.after) ∷ Words (ahead_text x.ahead) ∷ Words (outcome_word x.outcome) ∷ Int (pos (bit x.live)) ∷ []
 
+-- no build had its number, so none is taken out
 pub adds_build : (x : Build) (old new : State) (count : ℕ) → IsReady old → ExecutesInside 0 add_build_sql (build_params x) old new (Ok count)
-    → Changes old new (add_build x)
+    → Changes old new (λ b. add_build x (drop_build x.number b))
 adds_build x old new count ready h =
     let params = build_params x in
     let w = runs_as add_build_sql params old new gate_schema ready.schema_is (Insert 6 (Values add_build_terms 11)) add_build_is.0 add_build_is.1 count h.0 in
@@ -66,43 +68,19 @@ adds_build x old new count ready h =
     let left : new.now.trees 13 ≡ put_row (build_row x) (old.now.trees 13) =
     e.2.applies.rows ∙ ap (λ rs. edited old.now.trees (edit_of old.now.trees (build_at 13) [] Chosen 0 rs)) rows
     ∙ ap (λ r. put_row (with_rowid Chosen (old.now.trees 13) r) (old.now.trees 13)) stored in
-    record {
-      ready = record { schema_is = e.2.schema_is; inside = h.1.mode };
-      named = λ b named. named;
-      stands = λ b named stands. with_builds new.now.trees b _ (others_stay old new _ 13 b e.2 refl refl stands)
-          (subst (λ rs. IsKeyed build_key build_row rs (insert_by (λ y. pos (build_key y)) b.builds x)) (sym left) (keyed_put build_key build_row (λ x. refl) x (old.now.trees 13) b.builds stands.build));
-    }
-
--- ---- a build taken out
-
-abbrev pub drop_build_sql : List ℕ
-drop_build_sql = codes "DELETE FROM build WHERE num = ?1"
-
-abbrev pub drop_build_query : Query
-drop_build_query = over_table 13 (key_is 0 ∷ []) (col 1 0 ∷ []) [] no_limit
-
-pub drop_build_is : Is drop_build_sql (Delete 6 (record { lets = []; body = drop_build_query }))
-unfolding understood everything
-drop_build_is = (refl, (refl, refl))
-
-pub drops_build : (n : ℕ) (old new : State) (count : ℕ) → IsReady old → ExecutesInside 0 drop_build_sql (Int (pos n) ∷ []) old new (Ok count)
-    → Changes old new (drop_build n)
-drops_build n old new count ready h =
-    let params = Int (pos n) ∷ [] in
-    let program : Program = record { lets = []; body = drop_build_query } in
-    let w = runs_as drop_build_sql params old new gate_schema ready.schema_is (Delete 6 program) drop_build_is.0 drop_build_is.1 count h.0 in
-    let e = deletes gate_schema (λ _ _ _. refl) old new ready.schema_is 6 (build_at 13) refl (statement_of drop_build_sql (understood gate_schema drop_build_sql)) params count program w in
-    let db = overlay old.now.trees [] in
-    let test = passes (key_is 0 ∷ []) params in
+    let one : are_fresh (old.now.trees 13) (with_rowid Chosen (old.now.trees 13) (cast_row (build_at 13) (build_row x)) ∷ []) ≡ true = rw rows at e.2.applies.fresh in
+    let fresh : are_fresh (old.now.trees 13) (build_row x ∷ []) ≡ true =
+    subst (λ r. are_fresh (old.now.trees 13) (with_rowid Chosen (old.now.trees 13) r ∷ []) ≡ true) stored one in
     record {
       ready = record { schema_is = e.2.schema_is; inside = h.1.mode };
       named = λ b named. named;
       stands = λ b named stands.
-          let left : new.now.trees 13 ≡ filter (λ r. not (test r)) (old.now.trees 13) =
-          e.2.applies.rows ∙ leaves_others test (old.now.trees 13) _ (keyed_numbered build_key build_row (λ x. refl) (old.now.trees 13) b.builds stands.build) (deleted_ids 13 (key_is 0 ∷ []) db params e.0 (e.1.answer Null)) in
+          let free = subst (λ rs. list_any (λ (r : Row). is_eq (value_cmp (rowid r) (Int (pos x.number)))) rs ≡ false) stands.build.rows_are (not-true _ (and_parts _ _ fresh).0) in
+          let others : filter (λ y. not (eqb (build_key y) x.number)) b.builds ≡ b.builds =
+          filter_all _ b.builds (all_weaker _ _ (λ y none. ap not none) b.builds (none_has build_key build_row (λ y. refl) x.number b.builds free)) in
           with_builds new.now.trees b _ (others_stay old new _ 13 b e.2 refl refl stands)
-          (subst (λ rs. IsKeyed build_key build_row rs (filter (λ y. not (eqb (build_key y) n)) b.builds)) (sym left)
-          (keyed_without build_key build_row (λ x. refl) test (λ y. eqb (build_key y) n) (λ y. rw equal_numbers (and_true (eqb (build_key y) n))) (old.now.trees 13) b.builds stands.build));
+          (subst (λ (ys : List Build). IsKeyed build_key build_row (new.now.trees 13) (insert_by (λ y. pos (build_key y)) ys x)) (sym others)
+          (subst (λ rs. IsKeyed build_key build_row rs (insert_by (λ y. pos (build_key y)) b.builds x)) (sym left) (keyed_put build_key build_row (λ x. refl) x (old.now.trees 13) b.builds stands.build)));
     }
 
 -- ---- the outcome of a build told

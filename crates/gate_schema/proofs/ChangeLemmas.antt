@@ -2,10 +2,11 @@
 use Rattle.std.proofs.Common.{◌≡◌, ◌≤◌, ℕ, pos, List, [], ◌∷◌, map, drop, filter, length, Bool, true, false, not}
 use Rattle.std.proofs.Common.{cond, IsTrue, refl, sym, ap, subst, ◌∙◌, arith, is_eq, Ordering, Less, Equal, Greater}
 use Rattle.std.proofs.Common.{int_cmp, eqb, ltb}
+use Rattle.std.proofs.lemmas.Bool.{or_parts}
 use Rattle.std.proofs.lemmas.Bool.Decides.{nat_tests}
 use Rattle.std.proofs.lemmas.List.Elements.{filter_passes, recursion_from_All}
 use Rattle.std.proofs.lemmas.List.Sorted.{IsPermutation-refl}
-use Rattle.std.specs.List.{AllByRecursion}
+use Rattle.std.specs.List.{AllByRecursion, list_any}
 use Rattle.std.specs.Ordering.{match_ordering, ordering_reverse}
 use Rattle.std.proofs.lemmas.Cmp.{tied_itself}
 use Rattle.sqlite.specs.Order.{Row, value_cmp}
@@ -22,6 +23,7 @@ use Rattle.sqlite_keyed.proofs.RuleLemmas.{at_most_one}
 use Rattle.gate_schema.specs.Edits.{insert_if}
 use Rattle.gate_schema.specs.Rows.{IsNumbered, IsKeyed}
 use Rattle.gate_schema.proofs.DeleteLemmas.{is_its, leaves_others}
+use Rattle.gate_schema.proofs.ValueLemmas.{value_cmp-pos}
 
 abbrev pub changed : {X : Type 0} → (X → Bool) → (X → X) → List X → List X
 changed p f xs = map (λ x. cond (p x) (f x) x) xs
@@ -133,6 +135,15 @@ module _ {X : Type 0} (key : X → ℕ) (row : X → Row) (id : (x : X) → rowi
   -- one record at most has a key
   pub one_keyed : (n : ℕ) (p : X → Bool) → ((x : X) → p x ≡ true → eqb (key x) n ≡ true) → (xs : List X) → IsKeyedBy (λ x. pos (key x)) xs → length (filter p xs) ≤ 1
   one_keyed n p its xs up = at_most_one (λ x. pos (key x)) (pos n) p (λ x e. let same = its x e in grind (arith, nat_tests)) xs up
+
+  -- a rowid that no row has is the key of no record
+  pub none_has : (n : ℕ) (xs : List X) → list_any (λ (r : Row). is_eq (value_cmp (rowid r) (Int (pos n)))) (map row xs) ≡ false → AllByRecursion (λ x. eqb (key x) n ≡ false) xs
+  none_has n [] none = tt
+  none_has n (x ∷ xs) none =
+      let same : is_eq (value_cmp (rowid (row x)) (Int (pos n))) ≡ eqb (key x) n =
+      ap (λ v. is_eq (value_cmp v (Int (pos n)))) (id x) ∙ ap is_eq (value_cmp-pos (key x) n) ∙ grind (arith, nat_tests) in
+      let parts = or_parts _ _ none in
+      (sym same ∙ parts.0, none_has n xs parts.1)
 
   -- Where an UPDATE makes one row of each that it finds, and finds one at most, that one is taken out and the row is put.
   pub keyed_set : (test : Row → Bool) (new : Row → Row) (p : X → Bool) (x : X) → ((y : X) → test (row y) ≡ p y) → ((y : X) → p y ≡ true → new (row y) ≡ row x)

@@ -1,9 +1,0 @@
-use Rattle.sqlite.specs.Held.{state}
-use Rattle.gate_schema.proofs.BuildTable.{drops_build}
-use Rattle.gate_rows.proofs.RanLemmas.{ran_so}
-use Rattle.gate_rows.proofs.builds.drop_build.Goals as goal
-
-pub returns-clause-changes : goal.returns-clause-changes
-returns-clause-changes g c clean ready =
-    ran_so _ (λ ran. drops_build c.args.n (state g.S.Store c.args.tx.now.conn.now) (state g.S.Store c.run.new.tx.conn.now) ran.0 ready
-    (rw (c.build.ensures) at ran.1)) (c.run.ensures.ran clean ready)
