@@ -23,29 +23,37 @@ serial_of c s n = option_map (λ k. k.item.serial) (queued_of c s n)
 abbrev pub need_word : Option Change → List ℕ
 need_word known = option_map_or (λ k. stage_word k.stage) known (codes "unknown")
 
--- a need of a change: its approval while it waits, the queue in which it is an item, and what has become of it
+-- a need: its approval while it waits, the queue in which it is an item, and what has become of it
+abbrev pub need_object : ℕ → Piece → Piece → List ℕ → Piece
+need_object n approval stands state = object (
+    member (codes "approval") approval ∷ member (codes "change") (number n) ∷ member (codes "stands") stands ∷
+    member (codes "state") (plain state) ∷ [])
+
+-- a need of a change
 abbrev pub need_piece : Settings → State → ℕ → Piece
-need_piece c s n = object (
-    member (codes "approval") (or_null number (approval_of s.ready n)) ∷
-    member (codes "change") (number n) ∷
-    member (codes "stands") (or_null plain (stands_in c s n)) ∷
-    member (codes "state") (plain (need_word (known_change s n))) ∷ [])
+need_piece c s n =
+    need_object n (or_null number (approval_of s.ready n)) (or_null plain (stands_in c s n))
+    (need_word (known_change s n))
 
 -- a queue takes no more items
 abbrev pub is_full : Settings → State → List ℕ → Bool
 is_full c s queue = nat_le most_items (item_count c s queue)
 
--- the text of a change at its latest revision, with the queue of its project
+-- a change at its latest revision: its approval while it waits, its queue, and whether that is full; its needs, and the
+-- serial of its item
+abbrev pub change_object : Change → Piece → List ℕ → Bool → Piece → Piece → Piece
+change_object k approval queue full needs order = object (
+    member (codes "approval") approval ∷ member (codes "change") (number k.number) ∷
+    member (codes "full") (boolean full) ∷ member (codes "needs") needs ∷ member (codes "order") order ∷
+    member (codes "project") (plain k.project) ∷ member (codes "queue") (plain queue) ∷
+    member (codes "revision") (number k.revision) ∷ member (codes "state") (plain (stage_word k.stage)) ∷ [])
+
+-- the text of a change, with this queue
+abbrev pub change_text_in : Settings → State → Change → List ℕ → List ℕ
+change_text_in c s k queue =
+    change_object k (or_null number (approval_of s.ready k.number)) queue (is_full c s queue)
+    (array (map (need_piece c s) k.needs)) (or_null number (serial_of c s k.number)) []
+
+-- with the queue of its project
 abbrev pub change_text : Settings → State → Change → List ℕ
-change_text c s k =
-    let queue = (project_of c s k.number).queue in
-    object (
-    member (codes "approval") (or_null number (approval_of s.ready k.number)) ∷
-    member (codes "change") (number k.number) ∷
-    member (codes "full") (boolean (is_full c s queue)) ∷
-    member (codes "needs") (array (map (need_piece c s) k.needs)) ∷
-    member (codes "order") (or_null number (serial_of c s k.number)) ∷
-    member (codes "project") (plain k.project) ∷
-    member (codes "queue") (plain queue) ∷
-    member (codes "revision") (number k.revision) ∷
-    member (codes "state") (plain (stage_word k.stage)) ∷ []) []
+change_text c s k = change_text_in c s k (project_of c s k.number).queue

@@ -4,6 +4,7 @@ use Rattle.std.specs.Prelude.{option_map, flat_map, codes}
 use Rattle.std.specs.Option.{option_or}
 use Rattle.gate_types.specs.declared.config.Job.{Job}
 use Rattle.gate_types.specs.declared.records.Build.{Build}
+use Rattle.gate_types.specs.declared.records.Slot.{Slot}
 use Rattle.gate_types.specs.declared.records.Verdict.{Verdict}
 use Rattle.gate_types.specs.Settings.{Settings}
 use Rattle.gate_types.specs.State.{State}
@@ -36,18 +37,18 @@ abbrev pub left_at : State → ℕ → Option LeftItem
 left_at s serial = find (λ l. l.report.serial == serial) (left_items s)
 
 -- what is told of an item: its queue, its change at a revision, and why it left
-pub record Told : Type 0 where
+pub record ItemSummary : Type 0 where
   pub queue : List ℕ
   pub change : ℕ
   pub revision : ℕ
   pub verdict : Option Verdict
 
 -- of one that is queued
-abbrev pub told_queued : QueuedItem → Told
+abbrev pub told_queued : QueuedItem → ItemSummary
 told_queued k = record { queue = k.queue; change = k.item.change; revision = k.item.revision; verdict = None }
 
 -- of one that left
-abbrev pub told_left : LeftItem → Told
+abbrev pub told_left : LeftItem → ItemSummary
 told_left l =
     record {
       queue = l.queue;
@@ -57,7 +58,7 @@ told_left l =
     }
 
 -- of a serial
-abbrev pub told_of : Settings → State → ℕ → Option Told
+abbrev pub told_of : Settings → State → ℕ → Option ItemSummary
 told_of c s serial = option_or (option_map told_queued (queued_at c s serial)) (option_map told_left (left_at s serial))
 
 -- ---- its jobs
@@ -67,10 +68,14 @@ abbrev pub place_at : Settings → State → ℕ → Option Place
 place_at c s serial = find (λ p. p.item.serial == serial) (all_places c s)
 
 -- a job, and what it has come to, as in the status
-abbrev pub job_piece : List Build → Place → Job → Piece
-job_piece builds p j = object (
-    member (codes "job") (plain j.name) ∷ member (codes "slot") (plain (slot_word (slot_of builds p j))) ∷
+abbrev pub job_object : Job → Slot → Piece
+job_object j slot = object (
+    member (codes "job") (plain j.name) ∷ member (codes "slot") (plain (slot_word slot)) ∷
     member (codes "voting") (boolean j.voting) ∷ [])
+
+-- a job of a place
+abbrev pub job_piece : List Build → Place → Job → Piece
+job_piece builds p j = job_object j (slot_of builds p j)
 
 -- the jobs of a place
 abbrev pub jobs_piece : List Build → Place → Piece
@@ -102,17 +107,19 @@ summary_piece b = object (
 
 -- ---- the text
 
--- the text of an item of which this is told
-abbrev pub text_of : Settings → State → ℕ → Told → List ℕ
-text_of c s serial t = object (
-    member (codes "builds") (array (map summary_piece (last_builds s serial most_listed))) ∷
-    member (codes "change") (number t.change) ∷
-    member (codes "jobs") (or_null (jobs_piece s.builds) (place_at c s serial)) ∷
-    member (codes "kept") (number (length (builds_of s serial))) ∷
-    member (codes "order") (number serial) ∷
-    member (codes "queue") (plain t.queue) ∷
-    member (codes "revision") (number t.revision) ∷
-    member (codes "verdict") (or_null (λ v. plain (verdict_word v)) t.verdict) ∷ []) []
+-- an item of which this is told, with its builds, how many are kept, its jobs, and why it left
+abbrev pub item_object : ℕ → ItemSummary → Piece → ℕ → Piece → Piece → Piece
+item_object serial t builds kept jobs verdict = object (
+    member (codes "builds") builds ∷ member (codes "change") (number t.change) ∷ member (codes "jobs") jobs ∷
+    member (codes "kept") (number kept) ∷ member (codes "order") (number serial) ∷
+    member (codes "queue") (plain t.queue) ∷ member (codes "revision") (number t.revision) ∷
+    member (codes "verdict") verdict ∷ [])
+
+-- its text
+abbrev pub text_of : Settings → State → ℕ → ItemSummary → List ℕ
+text_of c s serial t =
+    item_object serial t (array (map summary_piece (last_builds s serial most_listed))) (length (builds_of s serial))
+    (or_null (jobs_piece s.builds) (place_at c s serial)) (or_null (λ v. plain (verdict_word v)) t.verdict) []
 
 -- the text of the item of a serial, where one was drawn
 abbrev pub item_text : Settings → State → ℕ → Option (List ℕ)

@@ -22,8 +22,12 @@ running_piece b = object (
     member (codes "job") (plain b.job) ∷ member (codes "order") (number b.serial) ∷
     member (codes "queue") (plain b.queue) ∷ member (codes "revision") (number b.revision) ∷ [])
 
+-- builds, and how many there are
+abbrev pub running_object : Piece → ℕ → Piece
+running_object builds count =
+    object (member (codes "builds") builds ∷ member (codes "running") (number count) ∷ [])
+
 -- the text: the first 1,000 of them, and how many there are
 abbrev pub running_text : State → List ℕ
-running_text s = object (
-    member (codes "builds") (array (map running_piece (take most_listed (running_builds s)))) ∷
-    member (codes "running") (number (length (running_builds s))) ∷ []) []
+running_text s =
+    running_object (array (map running_piece (take most_listed (running_builds s)))) (length (running_builds s)) []

@@ -1,7 +1,7 @@
 -- The text of a change, from what is told of it.
-use Rattle.std.proofs.Common.{◌≡◌, ℕ, Bool, true, false, Option, Some, None, List, [], ◌∷◌, ◌++◌, map, refl, sym, ap}
+use Rattle.std.proofs.Common.{◌≡◌, ℕ, Bool, true, false, Option, Some, None, List, [], ◌++◌, map, refl, sym, ap}
 use Rattle.std.proofs.Common.{◌∙◌, append_assoc, true≢false}
-use Rattle.std.specs.Prelude.{◌==◌, find, unwrap_or, codes}
+use Rattle.std.specs.Prelude.{◌==◌, find, unwrap_or}
 use Rattle.std.proofs.lemmas.Bool.{eqb-true}
 use Rattle.gate_types.specs.declared.config.Project.{Project}
 use Rattle.gate_types.specs.declared.records.Change.{Change}
@@ -9,14 +9,14 @@ use Rattle.gate_types.specs.declared.records.Stage.TheVariants as stage
 use Rattle.gate_types.specs.Names.{same_name}
 use Rattle.gate_types.specs.Settings.{Settings}
 use Rattle.gate_types.specs.State.{State, known_change, change_of, project_of}
-use Rattle.gate_types.specs.JsonText.{joined, number, plain, boolean, member, object}
+use Rattle.gate_types.specs.JsonText.{joined}
 use Rattle.gate_types.specs.Tables.{approval_of}
 use Rattle.gate_types.specs.Step.{has_project}
 use Rattle.gate_types.specs.Lawful.{IsSound}
 use Rattle.gate_laws.proofs.Members.{every, found, not_found, any_from}
-use Rattle.gate_types.specs.Words.{stage_word}
-use Rattle.gate_archive.specs.ChangeText.{stands_in, serial_of, need_word, need_piece, is_full, change_text}
-use Rattle.gate_texts.specs.Changes.{standing_of, need_told, change_told, change_front, change_back, change_text_in}
+use Rattle.gate_archive.specs.ChangeText.{stands_in, serial_of, need_word, need_object, need_piece, is_full}
+use Rattle.gate_archive.specs.ChangeText.{change_object, change_text_in, change_text}
+use Rattle.gate_texts.specs.Changes.{standing_of, need_told, change_told}
 use Rattle.gate_texts.specs.declared.change.Standing.{Standing}
 use Rattle.gate_texts.proofs.Entries.{AreEntries, array_is, number_is, name_is}
 
@@ -27,10 +27,8 @@ pub need_is : (c : Settings) (s : State) (n : ℕ) (w : Standing) (known : Optio
     w ≡ standing_of c s n → known ≡ known_change s n → need_told n w (need_word known) rest ≡ need_piece c s n rest
 need_is c s n w known rest e k =
     (λ i. need_told n (e i) (need_word (k i)) rest)
-    ∙ (λ i. object (
-    member (codes "approval") (λ r. number_is (approval_of s.ready n) r i) ∷ member (codes "change") (number n) ∷
-    member (codes "stands") (λ r. name_is (stands_in c s n) r i) ∷
-    member (codes "state") (plain (need_word (known_change s n))) ∷ []) rest)
+    ∙ (λ i. need_object n (λ r. number_is (approval_of s.ready n) r i) (λ r. name_is (stands_in c s n) r i)
+    (need_word (known_change s n)) rest)
 
 pub needs_are : (c : Settings) (s : State) → AreEntries (need_piece c s)
 needs_are c s = record {
@@ -49,23 +47,14 @@ needs_are c s = record {
 
 -- ---- a change
 
-pub change_parts : (k : Change) (queue : List ℕ) (w : Standing) (full : Bool) (needs : List ℕ) →
-    change_front k.number w full needs ++ change_back k queue w ≡ change_told k queue w full needs []
-change_parts k queue w full needs = simp append_assoc
-
 pub change_is : (c : Settings) (s : State) (k : Change) (queue : List ℕ) (w : Standing) (full : Bool)
     (needs text : List ℕ) → w ≡ standing_of c s k.number → full ≡ is_full c s queue →
-    needs ≡ joined (map (need_piece c s) k.needs) [] → text ≡ change_told k queue w full needs [] →
+    needs ≡ joined (map (need_piece c s) k.needs) [] → text ≡ change_told k w queue full needs [] →
     text ≡ change_text_in c s k queue
 change_is c s k queue w full needs text e f n t =
-    t ∙ (λ i. change_told k queue (e i) (f i) needs [])
-    ∙ (λ i. object (
-    member (codes "approval") (λ r. number_is (approval_of s.ready k.number) r i) ∷
-    member (codes "change") (number k.number) ∷ member (codes "full") (boolean (is_full c s queue)) ∷
-    member (codes "needs") (λ r. array_is (needs_are c s) k.needs needs r n i) ∷
-    member (codes "order") (λ r. number_is (serial_of c s k.number) r i) ∷
-    member (codes "project") (plain k.project) ∷ member (codes "queue") (plain queue) ∷
-    member (codes "revision") (number k.revision) ∷ member (codes "state") (plain (stage_word k.stage)) ∷ []) [])
+    t ∙ (λ i. change_told k (e i) queue (f i) needs [])
+    ∙ (λ i. change_object k (λ r. number_is (approval_of s.ready k.number) r i) queue (is_full c s queue)
+    (λ r. array_is (needs_are c s) k.needs needs r n i) (λ r. number_is (serial_of c s k.number) r i) [])
 
 -- ---- its project
 

@@ -11,11 +11,10 @@ use Rattle.gate_types.specs.Settings.{Settings, are_sound}
 use Rattle.gate_types.specs.State.{State}
 use Rattle.gate_types.specs.Once.{Content}
 use Rattle.gate_types.specs.Forms.{IsLawfulContent}
-use Rattle.gate_types.specs.JsonText.{Piece, joined, number, plain, boolean, array, member, object}
+use Rattle.gate_types.specs.JsonText.{Piece, joined, plain, array}
 use Rattle.gate_types.specs.Line.{Place}
 use Rattle.gate_types.specs.Slot.{is_blocked, has_failure, is_cut, cut_slot}
 use Rattle.gate_types.specs.Standing.{places, all_places}
-use Rattle.gate_types.specs.Status.{slot_word}
 use Rattle.gate_types.specs.History.{verdict_word}
 use Rattle.gate_types.specs.Rows.{row_of}
 use Rattle.gate_types.specs.Lawful.{IsSound}
@@ -25,8 +24,9 @@ use Rattle.gate_book_trait.proofs.Finding.{find_map}
 use Rattle.gate_book_trait.specs.Reads.{queued_of, item_at, live_builds}
 use Rattle.gate_book_trait.specs.declared.rows.QueuedItem.{QueuedItem}
 use Rattle.gate_archive.specs.OrNull.{or_null}
-use Rattle.gate_archive.specs.ItemText.{queued_at, left_at, told_queued, told_left, place_at, job_piece, jobs_piece}
-use Rattle.gate_archive.specs.ItemText.{builds_of, last_builds, summary_piece, text_of, item_text}
+use Rattle.gate_archive.specs.ItemText.{queued_at, left_at, told_queued, told_left, place_at, job_object, job_piece}
+use Rattle.gate_archive.specs.ItemText.{jobs_piece, builds_of, last_builds, summary_piece, item_object, text_of}
+use Rattle.gate_archive.specs.ItemText.{item_text}
 use Rattle.gate_archive.specs.declared.rows.BuildSummary.{BuildSummary}
 use Rattle.gate_archive.specs.declared.rows.LeftItem.{LeftItem}
 use Rattle.gate_reads.proofs.Found.{some_before, none_before, found_itself}
@@ -36,10 +36,9 @@ use Rattle.gate_reads.proofs.Queues.{named_itself}
 use Rattle.gate_reads.proofs.Stood.{Stood, stood, stood_in, stood_there, queued_as, serial_of, change_of, change_once}
 use Rattle.gate_reads.proofs.Stood.{queued_is, item_is, queued_are}
 use Rattle.gate_reads.proofs.Walking.{lawful_front}
-use Rattle.gate_texts.specs.Items.{job_told, is_cut_by_key, jobs_by_key, verdict_text, item_told, item_front}
-use Rattle.gate_texts.specs.Items.{item_back, IsToldOf}
+use Rattle.gate_texts.specs.Items.{job_told, is_cut_by_key, jobs_by_key, verdict_text, told_as, item_told, IsToldOf}
 use Rattle.gate_texts.specs.Values.{written}
-use Rattle.gate_texts.specs.declared.item.ToldItem.{ToldItem}
+use Rattle.gate_texts.specs.declared.item.WrittenItem.{WrittenItem}
 use Rattle.gate_texts.proofs.AheadByKey.{blocked_by_key}
 use Rattle.gate_texts.proofs.Entries.{AreEntries, joined_behind, array_is, name_is}
 use Rattle.gate_types.specs.Limits.{most_listed}
@@ -121,12 +120,9 @@ jobs_at_place c x a lawful y m rest =
     ∙ cut_by p.fast (is_blocked p) (has_failure s.builds p) in
     let counted = all_count c s lawful.lawful p here in
     array_is (jobs_are s.builds p) p.jobs _ rest
-    (λ d. joined (map (λ j. object (
-    member (codes "job") (plain j.name) ∷
-    member (codes "slot") (plain (slot_word (cond (cuts d)
+    (λ d. joined (map (λ j. job_object j (cond (cuts d)
     (cut_slot (slots_are s p (live_builds s p.item.serial) j refl counted d))
-    (slots_are s p (live_builds s p.item.serial) j refl counted d)))) ∷
-    member (codes "voting") (boolean j.voting) ∷ [])) (sym facts.jobs d)) [])
+    (slots_are s p (live_builds s p.item.serial) j refl counted d))) (sym facts.jobs d)) [])
 
 pub jobs_are_told : (c : Settings) (x : Content) → are_sound c ≡ true → IsLawfulContent c x → (n : ℕ)
     (k : QueuedItem) → queued_at c x.state n ≡ Some k → (rest : List ℕ) →
@@ -143,7 +139,7 @@ jobs_are_told c x a lawful n k e rest =
 -- ---- what is told
 
 pub queued_told : (c : Settings) (x : Content) → are_sound c ≡ true → IsLawfulContent c x → (n : ℕ) (k : QueuedItem)
-    (t : ToldItem) → Some k ≡ queued_at c x.state n → t.queue ≡ k.queue → t.change ≡ k.item.change →
+    (t : WrittenItem) → Some k ≡ queued_at c x.state n → t.queue ≡ k.queue → t.change ≡ k.item.change →
     t.revision ≡ k.item.revision → t.verdict ≡ None → string_bytes t.jobs ≡ jobs_by_key c x.state k [] →
     IsToldOf c x.state n t
 queued_told c x a lawful n k t e q ch r v j = record {
@@ -152,7 +148,7 @@ queued_told c x a lawful n k t e q ch r v j = record {
   jobs = j ∙ jobs_are_told c x a lawful n k (sym e) [];
 }
 
-pub left_told : (c : Settings) (s : State) (n : ℕ) (l : LeftItem) (t : ToldItem) → None ≡ queued_at c s n →
+pub left_told : (c : Settings) (s : State) (n : ℕ) (l : LeftItem) (t : WrittenItem) → None ≡ queued_at c s n →
     Some l ≡ left_at s n → t.queue ≡ l.queue → t.change ≡ l.report.change → t.revision ≡ l.report.revision →
     t.verdict ≡ Some l.report.verdict → string_bytes t.jobs ≡ codes "null" → IsToldOf c s n t
 left_told c s n l t e f q ch r v j = record {
@@ -187,21 +183,14 @@ verdict_is : (v : Option Verdict) (rest : List ℕ) →
 verdict_is None rest = refl
 verdict_is (Some v) rest = name_is (Some (verdict_word v)) rest
 
-pub item_parts : (serial : ℕ) (t : ToldItem) (builds : List ℕ) (kept : ℕ) →
-    item_front t builds kept ++ item_back serial t ≡ item_told serial t builds kept []
-item_parts serial t builds kept = simp append_assoc
-
-pub item_is_told : (c : Settings) (s : State) (n : ℕ) (t : ToldItem) (last : List BuildSummary)
+pub item_is_told : (c : Settings) (s : State) (n : ℕ) (t : WrittenItem) (last : List BuildSummary)
     (builds text : List ℕ) (kept : ℕ) → IsToldOf c s n t → last ≡ last_builds s n most_listed →
     builds ≡ joined (map summary_piece last) [] → kept ≡ length (builds_of s n) → text ≡ item_told n t builds kept [] →
     Some text ≡ item_text c s n
 item_is_told c s n t last builds text kept h l b k e =
     let all : builds ≡ joined (map summary_piece (last_builds s n most_listed)) [] =
     b ∙ ap (λ bs. joined (map summary_piece bs) []) l in
-    ap Some (e ∙ (λ i. object (
-    member (codes "builds") (λ r. array_is summaries_are (last_builds s n most_listed) builds r all i) ∷
-    member (codes "change") (number t.change) ∷
-    member (codes "jobs") (λ r. jobs_behind s.builds (place_at c s n) (string_bytes t.jobs) r h.jobs i) ∷
-    member (codes "kept") (number (k i)) ∷ member (codes "order") (number n) ∷ member (codes "queue") (plain t.queue) ∷
-    member (codes "revision") (number t.revision) ∷ member (codes "verdict") (λ r. verdict_is t.verdict r i) ∷ []) []))
+    ap Some (e ∙ (λ i. item_object n (told_as t)
+    (λ r. array_is summaries_are (last_builds s n most_listed) builds r all i) (k i)
+    (λ r. jobs_behind s.builds (place_at c s n) (string_bytes t.jobs) r h.jobs i) (λ r. verdict_is t.verdict r i) []))
     ∙ sym (ap (option_map (text_of c s n)) h.told)

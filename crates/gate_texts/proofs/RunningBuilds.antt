@@ -1,7 +1,7 @@
 -- The builds that run, told one after another.
 use Rattle.std.proofs.Common.{◌≡◌, ℕ, suc, ◌+◌, ◌≤◌, Bool, true, false, cond, Some, None, List, [], ◌∷◌, ◌++◌, map}
 use Rattle.std.proofs.Common.{take, drop, length, refl, sym, ap, ◌∙◌, subst, append_assoc, append-nil, arith}
-use Rattle.std.specs.Prelude.{nat_lt, flat_map, codes, string_bytes}
+use Rattle.std.specs.Prelude.{nat_lt, flat_map, codes, decimal, string_bytes}
 use Rattle.std.proofs.lemmas.Bool.{ltb-true, ltb-false}
 use Rattle.std.proofs.lemmas.List.{take_all, take-append-le, length-append}
 use Rattle.std.proofs.lemmas.List.Concat.{flat_map-cons}
@@ -10,15 +10,14 @@ use Rattle.gate_types.specs.declared.records.Item.{Item as ItemRow}
 use Rattle.gate_types.specs.Settings.{Settings}
 use Rattle.gate_types.specs.State.{Item, Queue, State}
 use Rattle.gate_types.specs.Standing.{next_ahead}
-use Rattle.gate_types.specs.JsonText.{joined, number, plain, member, object}
+use Rattle.gate_types.specs.JsonText.{joined}
 use Rattle.gate_types.specs.Rows.{item_rows}
-use Rattle.gate_archive.specs.RunningBuilds.{running_of, running_piece, running_builds, running_text}
+use Rattle.gate_archive.specs.RunningBuilds.{running_of, running_piece, running_builds, running_object, running_text}
 use Rattle.gate_book_trait.specs.Reads.{first_above, live_builds}
 use Rattle.gate_reads.proofs.Queues.{IsThere}
 use Rattle.gate_reads.proofs.Walking.{IsLeft, place_behind, step_along, end_along}
 use Rattle.gate_texts.specs.Listed.{with_entry}
 use Rattle.gate_texts.specs.Running.{running_among, running_in, OfBuilds, listed_with, running_told}
-use Rattle.gate_texts.specs.Values.{written}
 use Rattle.gate_texts.specs.declared.running.Running.{Running}
 use Rattle.gate_texts.proofs.Entries.{AreEntries, joined_more, array_is}
 use Rattle.gate_types.specs.Limits.{most_listed}
@@ -29,16 +28,12 @@ are_running = record { begins = λ b. refl; behind = behind }
     behind : (b : Build) (rest : List ℕ) → running_piece b rest ≡ running_piece b [] ++ rest
     behind b rest = simp append_assoc
 
--- a build, as it is written
-pub running_grouped : (number change job order queue revision : List ℕ) →
-    codes "{\"build\":" ++ ((number ++ (codes ",\"change\":" ++ (change ++ (codes ",\"job\":\"" ++ (job
-    ++ (codes "\",\"order\":" ++ (order ++ (codes ",\"queue\":\"" ++ (queue ++ (codes "\",\"revision\":"
-    ++ revision)))))))))) ++ codes "}")
-    ≡ object (
-    member (codes "build") (written number) ∷ member (codes "change") (written change) ∷
-    member (codes "job") (plain job) ∷ member (codes "order") (written order) ∷
-    member (codes "queue") (plain queue) ∷ member (codes "revision") (written revision) ∷ []) []
-running_grouped number change job order queue revision = simp append_assoc
+-- as it is written
+pub running_grouped : (b : Build) →
+    codes "{\"build\":" ++ ((decimal b.number ++ (codes ",\"change\":" ++ (decimal b.change ++ (codes ",\"job\":\""
+    ++ (b.job ++ (codes "\",\"order\":" ++ (decimal b.serial ++ (codes ",\"queue\":\"" ++ (b.queue
+    ++ (codes "\",\"revision\":" ++ decimal b.revision)))))))))) ++ codes "}") ≡ running_piece b []
+running_grouped b = simp append_assoc
 
 -- ---- one more
 
@@ -156,7 +151,5 @@ before_end s k r h e =
 pub running_is : (s : State) (r : Running) (text : List ℕ) → OfBuilds r (running_builds s) →
     text ≡ running_told (string_bytes r.list) r.count [] → text ≡ running_text s
 running_is s r text h t = t
-    ∙ (λ i. object (
-    member (codes "builds")
-    (λ z. array_is are_running (take most_listed (running_builds s)) (string_bytes r.list) z h.list i) ∷
-    member (codes "running") (number (h.count i)) ∷ []) [])
+    ∙ (λ i. running_object
+    (λ z. array_is are_running (take most_listed (running_builds s)) (string_bytes r.list) z h.list i) (h.count i) [])

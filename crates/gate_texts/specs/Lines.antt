@@ -3,15 +3,19 @@ use Rattle.std.specs.Prelude.{ℕ, Bool, if◌then◌else◌, List, [], ◌∷�
 use Rattle.gate_types.specs.declared.config.Job.{Job}
 use Rattle.gate_types.specs.declared.records.Build.{Build}
 use Rattle.gate_types.specs.declared.records.Item.{Item as ItemRow}
+use Rattle.gate_types.specs.declared.records.Slot.{Slot}
 use Rattle.gate_types.specs.Columns.{right, left, row, number_or_dash}
 use Rattle.gate_types.specs.Slot.{cut_slot}
 use Rattle.gate_types.specs.Status.{slot_word}
 use Rattle.gate_queue_rules.specs.Outcomes.{slot_among}
 
--- as `unit=success`, by the live builds of the item, and whether it is cut
+-- what a job has come to, by the live builds of the item, and whether it is cut
+abbrev pub slot_by : Bool → List Build → Job → Slot
+slot_by cut builds j = if cut then cut_slot (slot_among builds j) else slot_among builds j
+
+-- as `unit=success`
 abbrev pub job_column : Bool → List Build → Job → List ℕ
-job_column cut builds j =
-    j.name ++ 61 ∷ slot_word (if cut then cut_slot (slot_among builds j) else slot_among builds j)
+job_column cut builds j = j.name ++ 61 ∷ slot_word (slot_by cut builds j)
 
 -- how an item stands
 abbrev pub standing_word : Bool → Bool → List ℕ

@@ -15,11 +15,11 @@ abbrev pub comma_behind : List ℕ → List ℕ
 comma_behind [] = []
 comma_behind (b ∷ bs) = 44 ∷ []
 
--- a list with one more order, if there is one
-abbrev pub with_order : List ℕ → Option (List ℕ) → List ℕ
-with_order list None = list
-with_order list (Some order) = list ++ (comma_behind list ++ order)
-
 -- a list with one more element
 abbrev pub with_entry : List ℕ → List ℕ → List ℕ
 with_entry list entry = list ++ (comma_behind list ++ entry)
+
+-- a list with one more order, if there is one
+abbrev pub with_order : List ℕ → Option (List ℕ) → List ℕ
+with_order list None = list
+with_order list (Some order) = with_entry list order

@@ -1,11 +1,11 @@
 -- The builds that run, told one after another.
-use Rattle.std.specs.Prelude.{ℕ, ◌≡◌, nat_lt, if◌then◌else◌, List, [], ◌∷◌, map, filter, length, take, flat_map}
-use Rattle.std.specs.Prelude.{codes, string_bytes}
+use Rattle.std.specs.Prelude.{ℕ, ◌≡◌, nat_lt, if◌then◌else◌, List, [], map, filter, length, take, flat_map}
+use Rattle.std.specs.Prelude.{string_bytes}
 use Rattle.gate_types.specs.declared.records.Build.{Build}
 use Rattle.gate_types.specs.State.{Queue, State}
 use Rattle.gate_types.specs.Slot.{is_running}
-use Rattle.gate_types.specs.JsonText.{Piece, joined, number, member, object}
-use Rattle.gate_archive.specs.RunningBuilds.{running_of, running_piece}
+use Rattle.gate_types.specs.JsonText.{Piece, joined}
+use Rattle.gate_archive.specs.RunningBuilds.{running_of, running_piece, running_object}
 use Rattle.gate_texts.specs.Listed.{with_entry}
 use Rattle.gate_texts.specs.Values.{bracketed}
 use Rattle.gate_texts.specs.declared.running.Running.{Running}
@@ -30,5 +30,4 @@ listed_with count list entry = if nat_lt count most_listed then with_entry list 
 
 -- the list, and how many there are
 abbrev pub running_told : List ℕ → ℕ → Piece
-running_told list count =
-    object (member (codes "builds") (bracketed list) ∷ member (codes "running") (number count) ∷ [])
+running_told list count = running_object (bracketed list) count

@@ -2,7 +2,7 @@
 ghost use Rattle.std.specs.Prelude.{◌≡◌, [], IfOk, IfErr, map, option_map, string_bytes};
 ghost use Rattle.gate_types.specs.State.{known_change};
 ghost use Rattle.gate_types.specs.JsonText.{joined};
-ghost use Rattle.gate_archive.specs.ChangeText.{need_word, need_piece, change_text};
+ghost use Rattle.gate_archive.specs.ChangeText.{need_word, need_piece, change_text_in, change_text};
 ghost use Rattle.gate_book_trait.specs.Faults.{MayAnswer};
 ghost use Rattle.gate_book_trait.specs.Kept.{OfHeld, OfHeldUnder, IsKept};
 ghost use Rattle.gate_texts.specs.Changes as told;
@@ -107,42 +107,31 @@ fn needs_text<B: Book>(alloc: Global, book: &mut B, needs: &[ChangeNo]) -> Resul
     Ok(list)
 }
 
-/// The members up to the needs. They stand in byte order of their names.
-fn change_front(
+/// The members stand in byte order of their names.
+fn change_told(
     alloc: Global,
-    number: ChangeNo,
+    change: &Change,
     standing: &Standing,
+    queue: &str,
     full: bool,
     needs: &str,
 ) -> Result<String, NoMemory>
-    ensures { IfOk result (λ s. string_bytes s ≡ told.change_front number standing.now full needs.now) }
+    ensures { IfOk result (λ s. string_bytes s
+        ≡ told.change_told change.now standing.now queue.now full needs.now []) }
 {
     let approval = number_text(alloc, standing.approval)?;
-    let number = number.get();
-    let full = truth_word(full);
-    let text = format!(in alloc;
-        "{{\"approval\":{approval},\"change\":{number},\"full\":{full},\"needs\":[{needs}],"
-    )?;
-    Ok(text)
-}
-
-/// The members behind the needs.
-fn change_back(
-    alloc: Global,
-    change: &Change,
-    queue: &Name,
-    standing: &Standing,
-) -> Result<String, NoMemory>
-    ensures { IfOk result (λ s. string_bytes s ≡ told.change_back change.now queue.now standing.now) }
-{
     let order = order_text(alloc, standing)?;
+    let number = change.number.get();
+    let full = truth_word(full);
     let project = change.project.as_str();
-    let queue = queue.as_str();
     let revision = change.revision.get();
     let state = change.stage.word();
-    let text = format!(in alloc;
+    let back = format!(in alloc;
         "\"order\":{order},\"project\":\"{project}\",\"queue\":\"{queue}\",\
          \"revision\":{revision},\"state\":\"{state}\"}}"
+    )?;
+    let text = format!(in alloc;
+        "{{\"approval\":{approval},\"change\":{number},\"full\":{full},\"needs\":[{needs}],{back}"
     )?;
     Ok(text)
 }
@@ -155,16 +144,15 @@ fn text_in<B: Book>(
     queue: &Name,
 ) -> Result<Text, BookFault>
     ensures found { OfHeld B.IsTrusted B.Holds book.old book.new (λ c x.
-        IfOk result (λ text. text ≡ told.change_text_in c x.state change.now queue.now)) }
+        IfOk result (λ text. text ≡ change_text_in c x.state change.now queue.now)) }
     ensures kept { IsKept B.IsTrusted B.Holds B.LeavesOneOf book.old book.new }
     ensures fault { IfErr result (MayAnswer B.MayFault) }
 {
     let standing = standing_of(book, change.number)?;
     let full = MOST_ITEMS <= book.item_count(queue)?;
     let needs = needs_text(alloc, book, change.needs.as_slice())?;
-    let front = change_front(alloc, change.number, &standing, full, needs.as_str())?;
-    let back = change_back(alloc, change, queue, &standing)?;
-    let text = format!(in alloc; "{front}{back}")?;
+    let queue = queue.as_str();
+    let text = change_told(alloc, change, &standing, queue, full, needs.as_str())?;
     Ok(Text::new(text))
 }
 

@@ -22,7 +22,7 @@ use std::alloc::Global;
 
 /// What is told of an item beside its builds. `jobs` is written already, null for one that left.
 #[derive(Drop)]
-struct ToldItem {
+struct WrittenItem {
     queue: Name,
     change: ChangeNo,
     revision: Revision,
@@ -85,7 +85,7 @@ fn queued_at<B: Book>(book: &mut B, serial: Serial) -> Result<Option<QueuedItem>
     }
 }
 
-fn of_queued(queued: QueuedItem, jobs: String) -> ToldItem
+fn of_queued(queued: QueuedItem, jobs: String) -> WrittenItem
     ensures { result ≡ record {
       queue = queued.queue;
       change = queued.item.change;
@@ -95,7 +95,7 @@ fn of_queued(queued: QueuedItem, jobs: String) -> ToldItem
     } }
 {
     let QueuedItem { queue, item } = queued;
-    ToldItem {
+    WrittenItem {
         queue,
         change: item.change,
         revision: item.revision,
@@ -104,7 +104,7 @@ fn of_queued(queued: QueuedItem, jobs: String) -> ToldItem
     }
 }
 
-fn of_left(left: LeftItem, jobs: String) -> ToldItem
+fn of_left(left: LeftItem, jobs: String) -> WrittenItem
     ensures { result ≡ record {
       queue = left.queue;
       change = left.report.change;
@@ -114,7 +114,7 @@ fn of_left(left: LeftItem, jobs: String) -> ToldItem
     } }
 {
     let LeftItem { queue, report } = left;
-    ToldItem {
+    WrittenItem {
         queue,
         change: report.change,
         revision: report.revision,
@@ -129,7 +129,7 @@ fn told_item<B: Archive>(
     book: &mut B,
     config: &Config,
     serial: Serial,
-) -> Result<Option<ToldItem>, BookFault>
+) -> Result<Option<WrittenItem>, BookFault>
     ensures found { OfHeldUnder B.IsTrusted B.Holds book.old book.new config.now (λ x.
         IfOk result (λ found. told.TellsItem config.now x.state serial found)) }
     ensures kept { IsKept B.IsTrusted B.Holds B.LeavesOneOf book.old book.new }
@@ -185,28 +185,27 @@ fn verdict_text(alloc: Global, verdict: Option<Verdict>) -> Result<String, NoMem
     }
 }
 
-/// The members up to how many builds are kept. They stand in byte order of their names.
-fn item_front(alloc: Global, item: &ToldItem, builds: &str, kept: u64) -> Result<String, NoMemory>
-    ensures { IfOk result (λ s. string_bytes s ≡ told.item_front item.now builds.now kept) }
+/// The members stand in byte order of their names.
+fn item_told(
+    alloc: Global,
+    serial: Serial,
+    item: &WrittenItem,
+    builds: &str,
+    kept: u64,
+) -> Result<String, NoMemory>
+    ensures { IfOk result (λ s. string_bytes s ≡ told.item_told serial item.now builds.now kept []) }
 {
+    let verdict = verdict_text(alloc, item.verdict)?;
     let change = item.change.get();
     let jobs = item.jobs.as_str();
-    let text = format!(in alloc;
-        "{{\"builds\":[{builds}],\"change\":{change},\"jobs\":{jobs},\"kept\":{kept},"
-    )?;
-    Ok(text)
-}
-
-/// The members behind that.
-fn item_back(alloc: Global, serial: Serial, item: &ToldItem) -> Result<String, NoMemory>
-    ensures { IfOk result (λ s. string_bytes s ≡ told.item_back serial item.now) }
-{
     let order = serial.get();
     let queue = item.queue.as_str();
     let revision = item.revision.get();
-    let verdict = verdict_text(alloc, item.verdict)?;
-    let text = format!(in alloc;
+    let back = format!(in alloc;
         "\"order\":{order},\"queue\":\"{queue}\",\"revision\":{revision},\"verdict\":{verdict}}}"
+    )?;
+    let text = format!(in alloc;
+        "{{\"builds\":[{builds}],\"change\":{change},\"jobs\":{jobs},\"kept\":{kept},{back}"
     )?;
     Ok(text)
 }
@@ -229,8 +228,6 @@ pub fn item_text<B: Archive>(
     let kept = book.build_count(serial)?;
     let last = book.last_builds(serial, MOST_LISTED as u32)?;
     let builds = builds_text(alloc, last.as_slice())?;
-    let front = item_front(alloc, &item, builds.as_str(), kept)?;
-    let back = item_back(alloc, serial, &item)?;
-    let text = format!(in alloc; "{front}{back}")?;
+    let text = item_told(alloc, serial, &item, builds.as_str(), kept)?;
     Ok(Some(Text::new(text)))
 }

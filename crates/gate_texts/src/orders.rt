@@ -8,7 +8,7 @@ ghost use Rattle.gate_types.specs.State.{known_or_closed};
 ghost use Rattle.gate_reads.specs.Orders.{order_in, IsRowOf};
 ghost use Rattle.gate_texts.specs.Listed.{order_piece, with_order};
 
-use crate::values::comma_behind;
+use crate::values::push_entry;
 use gate_book_trait::{Book, BookFault};
 use gate_reads::order_of_queue;
 use gate_types::config::Config;
@@ -78,9 +78,7 @@ fn push_order(list: &mut String, order: &Option<Text>) -> Result<(), NoMemory>
     ensures { OnOk result (string_bytes list.new ≡ with_order (string_bytes list.old) order.now) }
 {
     if let Some(order) = order {
-        let comma = comma_behind(list.as_str());
-        list.push_str(comma)?;
-        list.push_str(order.as_str())?;
+        push_entry(list, order.as_str())?;
     }
     Ok(())
 }

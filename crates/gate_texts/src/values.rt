@@ -24,7 +24,7 @@ pub(crate) fn in_quotes(alloc: Global, name: &str) -> Result<String, NoMemory>
 }
 
 /// What stands between a list and its next element.
-pub(crate) fn comma_behind(list: &str) -> &'static str
+fn comma_behind(list: &str) -> &'static str
     ensures { result.now ≡ comma_behind list.now }
 {
     if list.is_empty() { "" } else { "," }

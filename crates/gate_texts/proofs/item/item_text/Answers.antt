@@ -1,7 +1,7 @@
-use Rattle.std.proofs.Common.{◌++◌, ◌∙◌, ap, subst}
+use Rattle.std.proofs.Common.{[], ◌∙◌, subst}
 use Rattle.std.specs.Prelude.{string_bytes}
-use Rattle.gate_texts.specs.Items.{TellsItem, item_front}
-use Rattle.gate_texts.proofs.ItemTexts.{item_is_told, item_parts}
+use Rattle.gate_texts.specs.Items.{TellsItem, item_told}
+use Rattle.gate_texts.proofs.ItemTexts.{item_is_told}
 use Rattle.gate_texts.proofs.item.item_text.Goals as goal
 
 pub returns-clause-found : goal.returns-clause-found
@@ -14,10 +14,8 @@ returns-clause-found g c trusted x holds lawful =
     let one = c.in_ok-kept.ensures.kept.trusted_before two in
     let at_one = c.in_ok-item.ensures.kept.holds_on one config x holds in
     let at_two = c.in_ok-kept.ensures.kept.holds_on two config x at_one in
-    let front = c.in_ok-front.ensures ∙ ap (λ l. item_front t l kept) c.as_str.ensures.value in
     item_is_told config x.state c.args.serial t c.as_slice.result.now builds c.new.result kept
     (subst (TellsItem config x.state c.args.serial) c.in-Some.is (c.in_ok-item.ensures.found one x holds lawful))
     (c.as_slice.ensures ∙ c.in_ok-last.ensures.found trusted config x at_two lawful)
     c.in_ok-builds.ensures (c.in_ok-kept.ensures.found two config x at_one lawful)
-    (c.new.ensures ∙ c.in_ok-text.ensures.ok ∙ (λ i. front i ++ c.in_ok-back.ensures i)
-    ∙ item_parts c.args.serial t builds kept)
+    (c.new.ensures ∙ c.in_ok-text.ensures ∙ (λ i. item_told c.args.serial t (c.as_str.ensures.value i) kept []))

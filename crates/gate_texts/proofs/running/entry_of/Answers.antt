@@ -1,11 +1,9 @@
 use Rattle.std.proofs.Common.{◌∙◌}
-use Rattle.std.specs.Prelude.{decimal}
 use Rattle.gate_texts.proofs.RunningBuilds.{running_grouped}
 use Rattle.gate_texts.proofs.running.entry_of.Goals as goal
 
 pub returns : goal.returns
 returns c =
-    let b = c.args.build.now in
     let told = rw (
       c.get-number.ensures.value,
       c.get-change.ensures.value,
@@ -14,4 +12,4 @@ returns c =
       c.as_str-queue.ensures.value,
       c.get-revision.ensures.value,
     ) at c.in_ok-text.ensures.ok in
-    told ∙ running_grouped (decimal b.number) (decimal b.change) b.job (decimal b.serial) b.queue (decimal b.revision)
+    told ∙ running_grouped c.args.build.now
