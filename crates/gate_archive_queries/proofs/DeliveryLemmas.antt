@@ -11,7 +11,7 @@ use Rattle.gate_found_rows.proofs.SilentLemmas.{plain_only_reads}
 use Rattle.gate_schema.specs.Schema.{gate_schema}
 use Rattle.gate_archive_queries.specs.Deliveries.{CutsLines, CutsPart}
 use Rattle.gate_archive_queries.proofs.DeliveryReads.{all_asks, all_sql, behind_asks, behind_sql}
-use Rattle.gate_archive_queries.proofs.StreamLemmas.{sooner_some}
+use Rattle.gate_queue_queries.proofs.StreamLemmas.{sooner_some}
 
 -- the queries only read, whatever the tables are
 pub all_reads : OnlyReads all_sql

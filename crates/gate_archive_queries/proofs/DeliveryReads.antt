@@ -48,8 +48,8 @@ use Rattle.gate_found_rows.proofs.ListedReads.{told_behind}
 use Rattle.gate_found_rows.proofs.ReadLemmas.{answers}
 use Rattle.gate_archive_queries.specs.Deliveries.{HoldAbove, IsFirstOf, IsPlaceOf, WritesLines, accepted}
 use Rattle.gate_archive_queries.specs.Deliveries.{accepted_shown, is_above, line_of}
-use Rattle.gate_archive_queries.proofs.StreamLemmas.{query_of}
-use Rattle.gate_archive_queries.specs.Streamed.{Streams, body, lines}
+use Rattle.gate_queue_queries.proofs.StreamLemmas.{query_of}
+use Rattle.gate_queue_queries.specs.Streamed.{Streams, body, lines}
 use Rattle.gate_archive_queries.specs.declared.delivery_rows.FeedPlace.{FeedPlace}
 
 -- ---- the texts

@@ -49,9 +49,10 @@ use Rattle.gate_found_rows.proofs.ListedReads.{kept_shown, told_behind}
 use Rattle.gate_found_rows.proofs.ReadLemmas.{answers}
 use Rattle.gate_queue_queries.specs.History.{report_shown}
 use Rattle.gate_queue_queries.proofs.ReportReads.{report_terms, history_names, numbered_rises, numbered_shown, out}
-use Rattle.gate_archive_queries.specs.HistoryFrom.{HoldsReports, history_sql, line_from, text_from}
-use Rattle.gate_archive_queries.proofs.StreamLemmas.{query_of}
-use Rattle.gate_archive_queries.specs.Streamed.{Streams, body, lines}
+use Rattle.gate_queue_queries.proofs.HistoryLemmas.{lines_are}
+use Rattle.gate_queue_queries.proofs.StreamLemmas.{query_of}
+use Rattle.gate_queue_queries.specs.Streamed.{Streams, body, line_from, lines}
+use Rattle.gate_archive_queries.specs.HistoryFrom.{HoldsReports, history_sql, text_from}
 use Rattle.gate_types.specs.Counters.{last_number}
 use Rattle.gate_types.specs.Limits.{most_listed}
 
@@ -158,13 +159,6 @@ last_is b name rs holds =
     (IsPermutation-map (λ (r : ReportRow). r.place) _ _ holds.0) ∙ last_numbered 0 rs ∙ omega arith
 
 -- ---- the text
-
--- the lines are those of the places
-lines_are : (first n : ℕ) (rs : List Report) → lines (line_from first) n rs ≡ flat_map report_row (enumerate_from (first + n) rs)
-lines_are first n [] = refl
-lines_are first n (r ∷ rs) =
-    let e : first + (n + 1) ≡ first + n + 1 = omega arith in
-    ap (λ l. report_row (first + n, r) ++ l) (lines_are first (n + 1) rs ∙ ap (λ m. flat_map report_row (enumerate_from m rs)) e)
 
 -- the first of numbered records are the first records, numbered
 take-enumerate : {X : Type 0} (m n : ℕ) (xs : List X) → take m (enumerate_from n xs) ≡ enumerate_from n (take m xs)

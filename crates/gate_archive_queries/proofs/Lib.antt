@@ -1,7 +1,6 @@
 mod LeftReads
 mod CountReads
 mod BuildReads
-mod StreamLemmas
 mod HistoryReads
 mod HistoryLemmas
 mod DeliveryReads

@@ -16,7 +16,7 @@ use Rattle.gate_archive.specs.Writes.{TookSome}
 use Rattle.gate_archive.specs.declared.fault.FeedFault.{FeedFault}
 use Rattle.gate_archive.specs.declared.fault.FeedFault.TheVariants as fault
 use Rattle.gate_schema.specs.Rows.{kept_columns}
-use Rattle.gate_archive_queries.specs.Streamed.{body}
+use Rattle.gate_queue_queries.specs.Streamed.{body}
 use Rattle.gate_archive_queries.specs.declared.delivery_rows.Accepted.{Accepted}
 use Rattle.gate_archive_queries.specs.declared.delivery_rows.FeedPlace.{FeedPlace}
 

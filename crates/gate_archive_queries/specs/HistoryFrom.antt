@@ -1,14 +1,10 @@
 -- What is written of a queue's reports from a place on.
-use Rattle.std.specs.Prelude.{◌≢◌, ◌≤◌, ◌++◌, ◌-◌, ◌+◌, ℕ, IsTrue, List, codes, drop, flat_map, length, take}
-use Rattle.std.specs.Prelude.{IsPermutation, Result, MatchResult}
+use Rattle.std.specs.Prelude.{◌≤◌, ◌++◌, ◌-◌, ℕ, List, codes, drop, flat_map, length, take, IsPermutation}
 use Rattle.std.specs.List.{enumerate_from}
-use Rattle.sqlite.specs.State.{HasCleanDisk, State}
 use Rattle.gate_types.specs.History.{report_row}
 use Rattle.gate_types.specs.Rows.{numbered}
 use Rattle.gate_types.specs.declared.records.Report.{Report}
 use Rattle.gate_book_trait.specs.Text.{first_line, last_line}
-use Rattle.gate_book_trait.specs.declared.fault.HistoryFault.{HistoryFault}
-use Rattle.gate_book_trait.specs.declared.fault.HistoryFault.TheVariants as fault
 use Rattle.gate_rows.specs.Matches.{reports_of}
 use Rattle.gate_schema.specs.Rows.{Stored}
 use Rattle.gate_types.specs.Counters.{last_number}
@@ -27,12 +23,3 @@ abbrev pub text_from : List ℕ → ℕ → List Report → List ℕ
 text_from name from rs =
     first_line name
     ++ (flat_map report_row (take most_listed (drop (from - 1) (enumerate_from 1 rs))) ++ last_line (length rs))
-
--- the line of a report that follows so many others, where the first stands at a place
-abbrev pub line_from : ℕ → ℕ → Report → List ℕ
-line_from first n r = report_row (first + n, r)
-
--- a call that wrote, or was to write, found the connection open
-abbrev pub OpenedHistory : State → State → Result (Unit {0}) HistoryFault → Type 0
-OpenedHistory old new result =
-    HasCleanDisk new → MatchResult result (λ _. IsTrue old.is_open) (λ f. f ≢ fault.Unavailable → IsTrue old.is_open)

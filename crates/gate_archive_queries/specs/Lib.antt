@@ -1,5 +1,4 @@
 pub mod Asked
-pub mod Streamed
 pub mod HistoryFrom
 pub mod Deliveries
 pub mod Answers

@@ -13,7 +13,7 @@ ghost use Rattle.gate_found_rows.specs.Finds.{OnlyReads, Stays};
 ghost use Rattle.gate_found_rows.specs.Reads.{IsOnlyRead, Opened, Shows};
 ghost use Rattle.gate_queue_queries.specs.History.{IsSettled};
 ghost use Rattle.gate_archive_queries.specs.Deliveries.{IsPlaceOf, OpenedFeed, WritesLines, WritesPart, accepted_shown};
-ghost use Rattle.gate_archive_queries.specs.Streamed.{ReadsOn, Streams};
+ghost use Rattle.gate_queue_queries.specs.Streamed.{ReadsOn, Streams};
 ghost use Rattle.gate_archive_queries.specs.declared.delivery_rows.Accepted.{Accepted as Told};
 
 use crate::delivery_rows::{Accepted, FeedPlace, accepted_in, first_place, place_value};

@@ -5,3 +5,4 @@ pub mod HistoryLemmas
 mod QueueReads
 mod QueueTexts
 pub mod ReportReads
+pub mod StreamLemmas

@@ -1,13 +1,10 @@
 -- What is read of the reports of a queue one row at a time, and what is written of it.
 use Rattle.std.specs.Prelude.{◌≡◌, ◌++◌, ⊤, ℕ, pos, IsTrue, List, [], ◌∷◌, codes, flat_map, length, IsPermutation}
-use Rattle.std.specs.Prelude.{Option, Some, None, Result, MatchResult}
+use Rattle.std.specs.Prelude.{Option, Result, MatchResult}
 use Rattle.std.specs.List.{enumerate_from}
-use Rattle.sqlite.specs.Given.{HasGiven}
-use Rattle.sqlite.specs.Held.{Held, state}
 use Rattle.sqlite.specs.Order.{Row}
-use Rattle.sqlite.specs.State.{Shown, State}
+use Rattle.sqlite.specs.State.{State}
 use Rattle.sqlite.specs.declared.types.Value.TheVariants.{Int, Text as Words}
-use Rattle.sqlite_trees.specs.declared.store.Store.{Ghosts}
 use Rattle.gate_types.specs.History.{report_row, verdict_word, landing_place}
 use Rattle.gate_types.specs.Rows.{numbered}
 use Rattle.gate_types.specs.Tap.{Took, TookFront}
@@ -31,16 +28,6 @@ abbrev pub report_shown : Report → Row
 report_shown r =
     Int (pos r.serial) ∷ Int (pos r.change) ∷ Int (pos r.revision) ∷ Words (verdict_word r.verdict) ∷
     number_or_null (landing_place r.verdict) ∷ []
-
--- the connection runs the query of a queue's reports, and has given these rows
-abbrev pub GaveRows : {S : Type 0} → Ghosts S → List ℕ → Held S → List Row → Type 0
-GaveRows g name h given = HasGiven g history_sql (Words name ∷ []) h given
-
--- a report was read of one more row, or the rows so far are the answer
-abbrev pub ReadsOn : {S : Type 0} → Ghosts S → List ℕ → Held S → Held S → List Row → Option Report → Type 0
-ReadsOn g name old new given (Some r) =
-    (row : Row) × GaveRows g name new (given ++ row ∷ []) × ((x : Report) → row ≡ report_shown x → r ≡ x)
-ReadsOn g name old new given None = Shown history_sql (Words name ∷ []) (state g old) (state g new) given
 
 -- while the connection answers, it shows what is committed
 abbrev pub IsSettled : State → Type 0

@@ -11,8 +11,10 @@
 mod counter_reads;
 pub mod first_reads;
 mod queues;
+mod report_lines;
 mod report_reads;
 
 pub use counter_reads::counters;
 pub use queues::{item_count, landing_before, landing_count, reports, window};
+pub use report_lines::{write_end, write_reports};
 pub use report_reads::history;

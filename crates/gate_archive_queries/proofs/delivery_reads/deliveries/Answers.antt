@@ -1,6 +1,7 @@
 use Rattle.std.proofs.Common.{ap, map}
 use Rattle.sqlite.specs.Held.{state}
 use Rattle.gate_archive.specs.Feed.{behind}
+use Rattle.gate_queue_queries.proofs.StreamLemmas.{read_by}
 use Rattle.gate_archive_queries.specs.Deliveries.{accepted}
 use Rattle.gate_archive_queries.proofs.DeliveryLemmas.{all_reads}
 use Rattle.gate_archive_queries.proofs.DeliveryReads.{all_streams, feeds}
@@ -13,8 +14,5 @@ returns-clause-found g c clean b shows =
     (c.write_queried.ensures.found clean (map accepted b.kept) (λ up. all_streams (state g.S.Store c.args.conn.now) b (shows up)))
 
 pub returns-clause-only_reads : goal.returns-clause-only_reads
-returns-clause-only_reads g c = record {
-  clean = c.write_queried.ensures.clean;
-  stays = λ clean. c.write_queried.ensures.stays clean all_reads;
-  crash = λ clean. c.write_queried.ensures.crash clean all_reads;
-}
+returns-clause-only_reads g c =
+    read_by _ _ _ all_reads c.write_queried.ensures.clean c.write_queried.ensures.stays c.write_queried.ensures.crash

@@ -2,8 +2,8 @@ use Rattle.std.proofs.Common.{Some, map, subst, sym}
 use Rattle.sqlite.specs.Effect.{Database}
 use Rattle.sqlite.specs.Held.{state}
 use Rattle.sqlite.specs.State.{HasCleanDisk}
-use Rattle.gate_found_rows.specs.Reads.{IsOnlyRead}
 use Rattle.gate_found_rows.proofs.ReadLemmas.{only_read_then, shown_still}
+use Rattle.gate_queue_queries.proofs.StreamLemmas.{read_by}
 use Rattle.gate_archive_queries.specs.Deliveries.{HoldAbove, accepted}
 use Rattle.gate_archive_queries.proofs.DeliveryLemmas.{behind_reads}
 use Rattle.gate_archive_queries.proofs.DeliveryReads.{behind_streams, feeds}
@@ -23,12 +23,5 @@ returns-clause-found g c clean b shows =
 
 pub returns-clause-only_reads : goal.returns-clause-only_reads
 returns-clause-only_reads g c =
-    let old = state g.S.Store c.args.conn.now in
-    let mid = state g.S.Store c.place_of.new.conn in
-    let new = state g.S.Store c.write_queried.new.conn in
-    let late : IsOnlyRead mid new = record {
-      clean = c.write_queried.ensures.clean;
-      stays = λ clean. c.write_queried.ensures.stays clean behind_reads;
-      crash = λ clean. c.write_queried.ensures.crash clean behind_reads;
-    } in
-    only_read_then old mid new c.place_of.ensures.only_reads late
+    only_read_then _ _ _ c.place_of.ensures.only_reads
+    (read_by _ _ _ behind_reads c.write_queried.ensures.clean c.write_queried.ensures.stays c.write_queried.ensures.crash)

@@ -5,10 +5,10 @@ use Rattle.sqlite.proofs.Callers.{unchanged_then}
 use Rattle.sqlite.specs.Held.{state}
 use Rattle.sqlite.specs.State.{HasCleanDisk}
 use Rattle.gate_archive_queries.specs.Deliveries.{accepted_shown, line_of}
-use Rattle.gate_archive_queries.specs.Streamed.{body, lines}
+use Rattle.gate_queue_queries.specs.Streamed.{body, lines}
 use Rattle.gate_archive_queries.proofs.DeliveryLemmas.{cut_so, front_cut}
-use Rattle.gate_archive_queries.proofs.StreamLemmas.{begins_writing, cut_in_line, ends_full, ends_none, stops_behind}
-use Rattle.gate_archive_queries.proofs.StreamLemmas.{writes_on}
+use Rattle.gate_queue_queries.proofs.StreamLemmas.{begins_writing, cut_in_line, ends_full, ends_none, stops_behind}
+use Rattle.gate_queue_queries.proofs.StreamLemmas.{writes_on}
 use Rattle.gate_archive_queries.proofs.delivery_reads.write_lines.Goals as goal
 
 pub loop-count-init : goal.loop-count-init

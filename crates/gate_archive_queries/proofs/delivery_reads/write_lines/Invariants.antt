@@ -5,9 +5,9 @@ use Rattle.sqlite.specs.Order.{Row}
 use Rattle.sqlite.specs.State.{HasCleanDisk, IsUnchanged, Survives}
 use Rattle.gate_types.specs.Tap.{has_failed}
 use Rattle.gate_archive_queries.specs.Deliveries.{accepted_shown, line_of}
-use Rattle.gate_archive_queries.specs.Streamed.{Streams}
+use Rattle.gate_queue_queries.specs.Streamed.{Streams}
 use Rattle.gate_archive_queries.specs.declared.delivery_rows.Accepted.{Accepted}
-use Rattle.gate_archive_queries.proofs.StreamLemmas.{IsWriting}
+use Rattle.gate_queue_queries.proofs.StreamLemmas.{IsWriting}
 use Rattle.gate_archive_queries.proofs.delivery_reads.write_lines.Given as goal
 
 abbrev pub invariant-loop-count : goal.invariant-loop-count

@@ -9,7 +9,7 @@ use Rattle.gate_found_rows.proofs.StayLemmas.{begun_keeps, failed_stays, read_su
 use Rattle.gate_queue_queries.specs.History.{IsSettled}
 use Rattle.gate_archive_queries.specs.Deliveries.{accepted_shown}
 use Rattle.gate_archive_queries.proofs.DeliveryLemmas.{opened_so}
-use Rattle.gate_archive_queries.proofs.StreamLemmas.{plain_of, streams_at}
+use Rattle.gate_queue_queries.proofs.StreamLemmas.{plain_of, streams_at}
 use Rattle.gate_archive_queries.proofs.delivery_reads.write_queried.Goals as goal
 
 pub returns-in-Err-clause-stays : goal.returns-in-Err-clause-stays

@@ -15,17 +15,16 @@ use Rattle.sqlite.specs.Held.{Held, state}
 use Rattle.sqlite.specs.Listing.{reads_listing, understood}
 use Rattle.sqlite.specs.Order.{Row}
 use Rattle.sqlite.specs.Query.{Query}
-use Rattle.sqlite.specs.State.{IsUnchanged, State}
+use Rattle.sqlite.specs.State.{HasCleanDisk, IsUnchanged, State, Survives}
 use Rattle.sqlite_resolve.specs.declared.compiled.Compiled.{Compiled}
 use Rattle.sqlite_resolve.specs.declared.error.CompileError.{CompileError}
 use Rattle.sqlite_trees.specs.declared.store.Store.{Ghosts}
-use Rattle.gate_types.specs.Tap.{Took, WritesFront}
+use Rattle.gate_types.specs.Tap.{inside, Took, WritesFront}
 use Rattle.gate_types.specs.declared.tap.Tap.{Tap}
-use Rattle.gate_archive.specs.Writes.{TookSome}
-use Rattle.gate_found_rows.specs.Finds.{Finds, IsPlainQuery}
+use Rattle.gate_found_rows.specs.Finds.{Finds, IsPlainQuery, OnlyReads, Stays}
+use Rattle.gate_found_rows.specs.Reads.{IsOnlyRead}
 use Rattle.gate_found_rows.proofs.StayLemmas.{shown_finds}
-use Rattle.gate_archive_queries.specs.Streamed.{ReadsOn, Streams, body, lines}
-use Rattle.gate_queue_queries.proofs.HistoryLemmas.{unchanged_refl}
+use Rattle.gate_queue_queries.specs.Streamed.{ReadsOn, Streams, body, lines}
 
 -- ---- rows that are given
 
@@ -50,6 +49,10 @@ more_shown shown (d ∷ done) x = ap (λ l. shown d ∷ l) (more_shown shown don
 -- a query with no WITH ends
 ends_so : (q : Query) (names : List (List ℕ)) (c : Command) (db : Database) (params : Row) → c ≡ Select (record { lets = []; body = q }) names → EndsIn c db params
 ends_so q names c db params is = subst (λ (c : Command). EndsIn c db params) (sym is) tt
+
+-- what has gone by
+unchanged_refl : (s : State) → IsTrue s.is_open → IsUnchanged s s
+unchanged_refl s up = (record { was_open = up; is_open = up; now_is = refl; committed_is = refl; mode = refl }, record { changes = refl; last_rowid = refl }, refl)
 
 -- the rows so far begin what the query finds
 given_finds : {S : Type 0} (g : Ghosts S) (sql : List ℕ) (params : Row) (h : Held S) (given : List Row) (q : Query) (names : List (List ℕ)) → IsPlainQuery (understood (state g h).now.schema sql) q names
@@ -102,10 +105,15 @@ streams_at sql params shown xs first start is it = record {
   found = λ rows finds. it.found rows (subst (λ (d : Database). Finds sql params d rows) is finds);
 }
 
+-- what is asked by a query that only reads is only read
+pub read_by : (sql : List ℕ) (old new : State) → OnlyReads sql → (HasCleanDisk new → HasCleanDisk old) → (HasCleanDisk new → OnlyReads sql → Stays old new)
+    → (HasCleanDisk new → OnlyReads sql → Survives old new (λ _. ⊥)) → IsOnlyRead old new
+read_by sql old new reads clean stays crash = record { clean = clean; stays = λ h. stays h reads; crash = λ h. crash h reads }
+
 -- ---- the text, cut at a record
 
 -- the lines of more records
-lines_more : {X : Type 0} (line : ℕ → X → List ℕ) (n : ℕ) (xs ys : List X) → lines line n (xs ++ ys) ≡ lines line n xs ++ lines line (n + length xs) ys
+pub lines_more : {X : Type 0} (line : ℕ → X → List ℕ) (n : ℕ) (xs ys : List X) → lines line n (xs ++ ys) ≡ lines line n xs ++ lines line (n + length xs) ys
 lines_more line n [] ys = let e : n ≡ n + 0 = omega arith in ap (λ m. lines line m ys) e
 lines_more line n (x ∷ xs) ys =
     let e : n + 1 + length xs ≡ n + length (x ∷ xs) = omega arith in
@@ -135,13 +143,18 @@ body_cut head line most done rest low =
 -- ---- what a writer took
 
 -- some first bytes, or all
-abbrev WritesSome : Option (List ℕ) → Option (List ℕ) → List ℕ → Type 0
+abbrev pub WritesSome : Option (List ℕ) → Option (List ℕ) → List ℕ → Type 0
 WritesSome old new bytes = (n : ℕ) × (n ≤ length bytes) × Appends old new (take n bytes)
 
 -- a text is the beginning of a longer one
 pub whole_some : (a b : Option (List ℕ)) (xs ys : List ℕ) → Appends a b xs → WritesSome a b (xs ++ ys)
 whole_some a b xs ys w =
     (length xs, (omega (arith, length-append xs ys)), subst (Appends a b) (sym (take-append-le (length xs) xs ys (omega arith) ∙ take_all (length xs) xs (omega arith))) w)
+
+-- and so a front of one that is longer
+pub whole_front : (a b : Option (List ℕ)) (xs ys : List ℕ) → 0 < length ys → Appends a b xs → WritesFront a b (xs ++ ys)
+unfolding whole_some
+whole_front a b xs ys some w = (length xs, (omega (arith, some, length-append xs ys)), (whole_some a b xs ys w).2)
 
 -- and so are some bytes of it
 pub sooner_some : (a b : Option (List ℕ)) (xs ys : List ℕ) → WritesSome a b xs → WritesSome a b (xs ++ ys)
@@ -214,16 +227,16 @@ module _ {S W X : Type 0} (g : Ghosts S) (sql : List ℕ) (params : Row) (shown 
 
   -- so it is where it stops in a line
   pub cut_in_line : (most : ℕ) (mid new : Tap W) (now : Held S) (count : ℕ) (x : X) (xs : List X) → count < most → IsWriting g sql params shown line head held old mid now count (Some x) xs
-      → TookSome held mid new (line count x) → TookSome held old new (body head line most xs)
+      → WritesSome (held (inside mid)) (held (inside new)) (line count x) → WritesSome (held (inside old)) (held (inside new)) (body head line most xs)
   cut_in_line most mid new now count x xs low it cut =
-      subst (TookSome held old new) (text_at most it.done x it.stands.0 count xs low it.counted (it.split ∙ ap (λ l. it.done ++ l) it.stands.1))
+      subst (WritesSome (held (inside old)) (held (inside new))) (text_at most it.done x it.stands.0 count xs low it.counted (it.split ∙ ap (λ l. it.done ++ l) it.stands.1))
       (sooner_some _ _ _ _ (later_some _ _ _ (head ++ lines line 0 it.done) (line count x) it.taken cut))
 
   -- or behind it
   pub stops_behind : (most : ℕ) (mid new : Tap W) (now : Held S) (count : ℕ) (x : X) (xs : List X) → count < most → IsWriting g sql params shown line head held old mid now count (Some x) xs
-      → Took held mid new (line count x) → TookSome held old new (body head line most xs)
+      → Took held mid new (line count x) → WritesSome (held (inside old)) (held (inside new)) (body head line most xs)
   stops_behind most mid new now count x xs low it took =
-      subst (TookSome held old new) (text_at most it.done x it.stands.0 count xs low it.counted (it.split ∙ ap (λ l. it.done ++ l) it.stands.1))
+      subst (WritesSome (held (inside old)) (held (inside new))) (text_at most it.done x it.stands.0 count xs low it.counted (it.split ∙ ap (λ l. it.done ++ l) it.stands.1))
       (whole_some _ _ _ _ (Appends-trans _ _ _ _ _ it.taken took))
 
   -- all of it is written where as many are as may be, or none is to come

@@ -4,16 +4,13 @@ use Rattle.sqlite.proofs.StateLemmas.{survives_then}
 use Rattle.sqlite.proofs.Callers.{unchanged_then}
 use Rattle.sqlite.specs.Held.{state}
 use Rattle.sqlite.specs.State.{HasCleanDisk}
-use Rattle.gate_book_trait.specs.Text.{first_line, last_line}
+use Rattle.gate_book_trait.specs.Text.{first_line}
 use Rattle.gate_queue_queries.specs.History.{report_shown}
-use Rattle.gate_archive_queries.specs.HistoryFrom.{line_from}
-use Rattle.gate_archive_queries.specs.Streamed.{body, lines}
-use Rattle.gate_archive_queries.proofs.HistoryLemmas.{cut_before_end, leaves_head, written_last}
-use Rattle.gate_queue_queries.proofs.HistoryLemmas.{cuts_late}
-use Rattle.gate_archive_queries.proofs.StreamLemmas.{begins_writing, cut_in_line, ends_full, ends_none, front_some}
-use Rattle.gate_archive_queries.proofs.StreamLemmas.{stops_behind, writes_on}
-use Rattle.gate_archive_queries.proofs.history_reads.write_reports.Goals as goal
-use Rattle.gate_types.specs.Limits.{most_listed}
+use Rattle.gate_queue_queries.specs.Streamed.{body, line_from, lines}
+use Rattle.gate_queue_queries.proofs.HistoryLemmas.{cut_within, leaves_head}
+use Rattle.gate_queue_queries.proofs.StreamLemmas.{begins_writing, cut_in_line, ends_full, ends_none, front_some}
+use Rattle.gate_queue_queries.proofs.StreamLemmas.{some_front, stops_behind, writes_on}
+use Rattle.gate_queue_queries.proofs.report_lines.write_lines.Goals as goal
 
 pub loop-step-init : goal.loop-step-init
 loop-step-init g c =
@@ -50,39 +47,33 @@ loop-step-preserved g c =
 pub returns-in_err-write_head-clause-found : goal.returns-in_err-write_head-clause-found
 returns-in_err-write_head-clause-found g c clean sql params gave rs streams =
     let p = err_from_is_err_and c.from_residual.result c.from_residual.ensures.1 in
-    rw (p.1, p.2) (leaves_head g.W.Write.contents c.args.w.now c.write_head.new.w (c.args.front.now ++ first_line c.args.queue.now) (lines (line_from c.args.first) 0 (take most_listed rs)) (last_line c.args.count) _
-    c.in_err-write_head.ensures.taken)
+    rw (p.1, p.2) (leaves_head g.W.Write.contents c.args.w.now c.write_head.new.w (c.args.front.now ++ first_line c.args.queue.now) (lines (line_from c.args.first) 0 (take c.args.most rs)) _ c.in_err-write_head.ensures.taken)
 
 pub returns-in_default-clause-found : goal.returns-in_default-clause-found
 returns-in_default-clause-found g c clean sql params gave rs streams =
     let was = rw c.in_default.is at (c.loop-step.invariant.writing clean sql params gave rs streams) in
-    written_last g.W.Write.contents c.args.w.now c.loop-step.w c.write_end.new.w (body (c.args.front.now ++ first_line c.args.queue.now) (line_from c.args.first) most_listed rs) c.args.count c.write_end.result
-    (ends_none g.S.Store sql params report_shown (line_from c.args.first) (c.args.front.now ++ first_line c.args.queue.now) g.W.Write.contents c.args.w.now most_listed c.loop-step.w c.loop-step.rows.conn.now c.loop-step.step rs
-    (omega arith) was).0 c.write_end.ensures
+    ends_none g.S.Store sql params report_shown (line_from c.args.first) (c.args.front.now ++ first_line c.args.queue.now) g.W.Write.contents c.args.w.now c.args.most c.loop-step.w c.loop-step.rows.conn.now c.loop-step.step rs
+    (omega arith) was
 
 pub returns-in_err-write_report-clause-found : goal.returns-in_err-write_report-clause-found
 returns-in_err-write_report-clause-found g c clean sql params gave rs streams =
     let p = err_from_is_err_and c.from_residual-in_err-write_report.result c.from_residual-in_err-write_report.ensures.1 in
     let was = rw c.in-Some.is at (c.loop-step.invariant.writing clean sql params gave rs streams) in
-    let text = body (c.args.front.now ++ first_line c.args.queue.now) (line_from c.args.first) most_listed rs in
-    rw (p.1, p.2) (cuts_late g.W.Write.contents c.args.w.now c.write_report.new.w (body (c.args.front.now ++ first_line c.args.queue.now) (line_from c.args.first) most_listed rs ++ last_line c.args.count) _
-    c.in_err-write_report.ensures.stops
-    (cut_before_end g.W.Write.contents c.args.w.now c.write_report.new.w (body (c.args.front.now ++ first_line c.args.queue.now) (line_from c.args.first) most_listed rs) c.args.count
-    (cut_in_line g.S.Store sql params report_shown (line_from c.args.first) (c.args.front.now ++ first_line c.args.queue.now) g.W.Write.contents c.args.w.now most_listed c.loop-step.w c.write_report.new.w
-    c.loop-step.rows.conn.now c.loop-step.step c.in-Some.report rs (omega arith) was (front_some _ _ _ c.in_err-write_report.ensures.taken))))
+    rw (p.1, p.2) (cut_within g.W.Write.contents c.args.w.now c.write_report.new.w (body (c.args.front.now ++ first_line c.args.queue.now) (line_from c.args.first) c.args.most rs) _ c.in_err-write_report.ensures.stops
+    (cut_in_line g.S.Store sql params report_shown (line_from c.args.first) (c.args.front.now ++ first_line c.args.queue.now) g.W.Write.contents c.args.w.now c.args.most c.loop-step.w c.write_report.new.w
+    c.loop-step.rows.conn.now c.loop-step.step c.in-Some.report rs (omega arith) was (front_some _ _ _ c.in_err-write_report.ensures.taken)))
 
 pub returns-in-Err-next_report-clause-found : goal.returns-in-Err-next_report-clause-found
 returns-in-Err-next_report-clause-found g c clean sql params gave rs streams =
     let early : HasCleanDisk (state g.S.Store c.loop-step.rows.conn.now) = omega (arith, c.next_report-in-loop-step.ensures.crash.clean) in
     let was = rw c.in-Some.is at (c.loop-step.invariant.writing early sql params gave rs streams) in
-    cut_before_end g.W.Write.contents c.args.w.now c.write_report.new.w (body (c.args.front.now ++ first_line c.args.queue.now) (line_from c.args.first) most_listed rs) c.args.count
-    (stops_behind g.S.Store sql params report_shown (line_from c.args.first) (c.args.front.now ++ first_line c.args.queue.now) g.W.Write.contents c.args.w.now most_listed c.loop-step.w c.write_report.new.w
+    λ rest some. some_front _ _ (body (c.args.front.now ++ first_line c.args.queue.now) (line_from c.args.first) c.args.most rs) rest some
+    (stops_behind g.S.Store sql params report_shown (line_from c.args.first) (c.args.front.now ++ first_line c.args.queue.now) g.W.Write.contents c.args.w.now c.args.most c.loop-step.w c.write_report.new.w
     c.loop-step.rows.conn.now c.loop-step.step c.in-Some.report rs (omega arith) was c.in_ok-write_report.ensures.taken)
 
 pub returns-clause-found : goal.returns-clause-found
 returns-clause-found g c clean sql params gave rs streams =
     let was = c.loop-step.invariant.writing clean sql params gave rs streams in
-    let full : c.loop-step.step ≡ most_listed = omega arith in
-    written_last g.W.Write.contents c.args.w.now c.loop-step.w c.write_end-2.new.w (body (c.args.front.now ++ first_line c.args.queue.now) (line_from c.args.first) most_listed rs) c.args.count c.write_end-2.result
-    (ends_full g.S.Store sql params report_shown (line_from c.args.first) (c.args.front.now ++ first_line c.args.queue.now) g.W.Write.contents c.args.w.now most_listed c.loop-step.w c.loop-step.rows.conn.now c.loop-step.next rs
-    (rw full at was)).0 c.write_end-2.ensures
+    let full : c.loop-step.step ≡ c.args.most = omega arith in
+    ends_full g.S.Store sql params report_shown (line_from c.args.first) (c.args.front.now ++ first_line c.args.queue.now) g.W.Write.contents c.args.w.now c.args.most c.loop-step.w c.loop-step.rows.conn.now c.loop-step.next rs
+    (rw full at was)

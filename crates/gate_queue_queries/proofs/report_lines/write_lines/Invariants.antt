@@ -7,10 +7,9 @@ use Rattle.gate_types.specs.Tap.{has_failed}
 use Rattle.gate_types.specs.declared.records.Report.{Report}
 use Rattle.gate_book_trait.specs.Text.{first_line}
 use Rattle.gate_queue_queries.specs.History.{report_shown}
-use Rattle.gate_archive_queries.specs.HistoryFrom.{line_from}
-use Rattle.gate_archive_queries.specs.Streamed.{Streams}
-use Rattle.gate_archive_queries.proofs.StreamLemmas.{IsWriting}
-use Rattle.gate_archive_queries.proofs.history_reads.write_reports.Given as goal
+use Rattle.gate_queue_queries.specs.Streamed.{Streams, line_from}
+use Rattle.gate_queue_queries.proofs.StreamLemmas.{IsWriting}
+use Rattle.gate_queue_queries.proofs.report_lines.write_lines.Given as goal
 
 abbrev pub invariant-loop-step : goal.invariant-loop-step
 invariant-loop-step g l =

@@ -1,6 +1,6 @@
 use Rattle.gate_book_trait.specs.Text.{first_line}
 use Rattle.gate_queue_queries.proofs.HistoryLemmas.{written_head}
-use Rattle.gate_archive_queries.proofs.history_reads.write_head.Goals as goal
+use Rattle.gate_queue_queries.proofs.report_lines.write_head.Goals as goal
 
 pub returns-clause-taken : goal.returns-clause-taken
 returns-clause-taken g c =
