@@ -12,14 +12,10 @@ use Rattle.gate_types.specs.Tables.{Tables, tables}
 use Rattle.gate_memory.specs.Builds.{AreKept, HaveRoom}
 use Rattle.gate_memory.specs.Plans as plan
 use Rattle.gate_memory.specs.Changes as change
+use Rattle.gate_memory.specs.Drawn.{drawn_of}
 use Rattle.gate_memory.specs.Queues as queue
 use Rattle.gate_memory.specs.Replies as reply
-use Rattle.gate_book.specs.declared.tables.LastNumbers.{LastNumbers}
 use Rattle.gate_book.specs.declared.tables.MemTables.{MemTables}
-
--- the last numbers drawn
-abbrev pub drawn_of : LastNumbers → Drawn
-drawn_of d = record { approval = d.approval; build = d.build; order = d.order }
 
 -- the content before the first delivery, with these numbers drawn
 abbrev pub start_with : Settings → Drawn → Content

@@ -28,7 +28,8 @@ use Rattle.gate_memory.proofs.SortedLemmas.{put_after, rises-at}
 use Rattle.gate_book_trait.specs.Reads as read
 use Rattle.gate_book_trait.specs.RowReads.{rows_named}
 use Rattle.gate_book_trait.proofs.ReadLemmas.{rows_of_queue, named_is, found_passes}
-use Rattle.gate_live.specs.Live.{LiveQueue, live_queue, edited_live_queue}
+use Rattle.gate_memory.specs.HeldQueues.{LiveQueue}
+use Rattle.gate_live.specs.Live.{live_queue, edited_live_queue}
 use Rattle.gate_live.specs.Held.{queue_of}
 use Rattle.gate_live.specs.declared.held_queue.HeldQueue.{HeldQueue}
 use Rattle.gate_live.proofs.LiveLemmas.{count_of_landings, count_of_reports}

@@ -14,7 +14,8 @@ use Rattle.gate_book_trait.specs.RowReads.{rows_named, queued_rows, all_queued}
 use Rattle.gate_book_trait.proofs.Finding.{find_map}
 use Rattle.gate_book_trait.proofs.ReadLemmas.{rows_of_queue, named_is, items_are, window_is, queued_are, found_passes}
 use Rattle.gate_book_trait.proofs.ReadLemmas.{last_passes, weaker_if}
-use Rattle.gate_live.specs.Live.{LiveQueue, live_queue, live_tables, live_named, live_items, live_queued}
+use Rattle.gate_memory.specs.HeldQueues.{LiveQueue, live_queued}
+use Rattle.gate_live.specs.Live.{live_queue, live_tables, live_named, live_items}
 use Rattle.gate_live.proofs.LiveLemmas.{count_of_landings, count_of_reports}
 
 -- the queue of a name

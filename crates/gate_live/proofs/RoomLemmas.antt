@@ -1,26 +1,22 @@
 -- Room for more is room for less.
-use Rattle.std.proofs.Common.{ℕ, suc, ◌≤◌, arith}
+use Rattle.std.proofs.Common.{ℕ, suc, arith}
 use Rattle.gate_memory.specs.Builds.{HaveRoom}
 use Rattle.gate_memory.specs.declared.builds.BuildTable.{BuildTable}
+use Rattle.gate_memory.proofs.RoomLemmas.{builds_fewer}
 use Rattle.gate_live.specs.HeldBuilds.{HaveBuildRoom}
 use Rattle.gate_live.specs.HeldPlans.{HavePlanRoom}
 use Rattle.gate_live.specs.declared.held_builds.HeldBuilds.{HeldBuilds}
 use Rattle.gate_live.specs.declared.held_plans.HeldPlans.{HeldPlans}
 
 -- for builds
-table_room : (n m : ℕ) (t : BuildTable) → n ≤ m → HaveRoom m t → HaveRoom n t
-table_room n m t less room =
-    let rows = room.rows in let live = room.live in let told = room.told in
-    record { rows = omega (arith, rows); live = omega (arith, live); told = omega (arith, told) }
-
 pub table_room_one : (n : ℕ) (t : BuildTable) → HaveRoom (suc n) t → HaveRoom 1 t
-table_room_one n t room = table_room 1 (suc n) t (omega arith) room
+table_room_one n t room = builds_fewer (suc n) 1 t (omega arith) room
 
 pub build_room_less : (n : ℕ) (h : HeldBuilds) → HaveBuildRoom (suc n) h → HaveBuildRoom n h
-build_room_less n h room = table_room n (suc n) h.table (omega arith) room
+build_room_less n h room = builds_fewer (suc n) n h.table (omega arith) room
 
 pub build_room_one : (n : ℕ) (h : HeldBuilds) → HaveBuildRoom (suc n) h → HaveBuildRoom 1 h
-build_room_one n h room = table_room 1 (suc n) h.table (omega arith) room
+build_room_one n h room = builds_fewer (suc n) 1 h.table (omega arith) room
 
 -- for plans
 pub plan_room_less : (n : ℕ) (h : HeldPlans) → HavePlanRoom (suc n) h → HavePlanRoom n h

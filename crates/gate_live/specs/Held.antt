@@ -2,22 +2,18 @@
 use Rattle.std.specs.Prelude.{ℕ, ◌≡◌, map, Option, IfSome}
 use Rattle.std.specs.List.{AllByRecursion}
 use Rattle.gate_types.specs.Settings.{Settings}
-use Rattle.gate_types.specs.Counters.{Drawn}
 use Rattle.gate_types.specs.Once.{Content}
 use Rattle.gate_types.specs.Tables.{tables}
+use Rattle.gate_memory.specs.Drawn.{drawn_of}
+use Rattle.gate_memory.specs.HeldQueues.{LiveQueue}
 use Rattle.gate_memory.specs.Queues as queue
-use Rattle.gate_live.specs.Live.{LiveQueue, LiveTables, bare, live_tables}
+use Rattle.gate_live.specs.Live.{LiveTables, bare, live_tables}
 use Rattle.gate_live.specs.declared.held_queue.HeldQueue.{HeldQueue}
-use Rattle.gate_live.specs.declared.held.LastNumbers.{LastNumbers}
 use Rattle.gate_live.specs.declared.held.Held.{Held}
 
 -- the live rows of a held queue
 abbrev pub queue_of : HeldQueue → LiveQueue
 queue_of h = record { rows = bare (queue.rows_of h.table); landings = h.landings; reports = h.reports }
-
--- the last numbers drawn, as counters
-abbrev pub drawn_of : LastNumbers → Drawn
-drawn_of d = record { approval = d.approval; build = d.build; order = d.order }
 
 -- the live rows of all held queues, and the counters
 abbrev pub live_of : Held → LiveTables

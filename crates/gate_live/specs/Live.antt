@@ -7,14 +7,7 @@ use Rattle.gate_types.specs.declared.edits.Edit.TheVariants as edit
 use Rattle.gate_types.specs.Names.{same_name}
 use Rattle.gate_types.specs.Counters.{Drawn}
 use Rattle.gate_types.specs.Tables.{QueueRows, Tables, edited_queue, edited_counters}
-use Rattle.gate_book_trait.specs.RowReads.{all_queued}
-use Rattle.gate_book_trait.specs.declared.rows.QueuedItem.{QueuedItem}
-
--- the live rows of a queue: its window and items, and the last places of its landings and reports
-pub record LiveQueue : Type 0 where
-  pub rows : QueueRows
-  pub landings : ℕ
-  pub reports : ℕ
+use Rattle.gate_memory.specs.HeldQueues.{LiveQueue}
 
 -- the live rows of all queues, and the counters
 pub record LiveTables : Type 0 where
@@ -81,7 +74,3 @@ live_named queues name = find (λ l. same_name l.rows.name name) queues
 -- the items of the queue of this name; an empty list if there is none
 abbrev pub live_items : List LiveQueue → List ℕ → List Item
 live_items queues name = option_map_or (λ l. l.rows.items) (live_named queues name) []
-
--- the items of all queues, each with the name of its queue
-abbrev pub live_queued : List LiveQueue → List QueuedItem
-live_queued queues = all_queued (map (λ l. l.rows) queues)

@@ -7,7 +7,8 @@ use Rattle.gate_types.specs.declared.records.Plan.{Plan}
 use Rattle.gate_types.specs.declared.rows.ChangeRow.{ChangeRow}
 use Rattle.gate_types.specs.Settings.{Settings}
 use Rattle.gate_types.specs.Once.{Content}
-use Rattle.gate_live.specs.Live.{LiveTables, live_queued}
+use Rattle.gate_memory.specs.HeldQueues.{live_queued}
+use Rattle.gate_live.specs.Live.{LiveTables}
 use Rattle.gate_live.specs.Held.{IsLiveOf}
 use Rattle.gate_live.specs.HeldBuilds.{AreBuildsOf, KnownBuilds}
 use Rattle.gate_live.specs.HeldPlans.{ArePlansOf}

@@ -17,6 +17,7 @@ use crate::held_queue::HeldQueue;
 use crate::live::Live;
 use crate::live_book::LiveBook;
 use gate_book_trait::{Book, BookFault};
+use gate_memory::HoldsQueue;
 use gate_types::config::{Config, Queue};
 use gate_types::edits::Edit;
 use gate_types::names::{Name, NoMemory};

@@ -7,6 +7,8 @@ pub mod ReplyLemmas
 pub mod TableLemmas
 pub mod ChangeLemmas
 pub mod LoopLemmas
+pub mod HoldingLemmas
+pub mod RoomLemmas
 pub mod NeedLemmas
 pub mod ReadyLemmas
 pub mod NeedingLemmas

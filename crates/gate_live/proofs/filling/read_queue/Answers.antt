@@ -2,7 +2,7 @@ use Rattle.std.proofs.Common.{◌≡◌, ◌∙◌, List, Some, ap, sym, subst}
 use Rattle.gate_types.specs.declared.records.Item.{Item}
 use Rattle.gate_types.specs.Keys.{serial_of_item}
 use Rattle.gate_types.specs.Rising.{RisesFrom}
-use Rattle.gate_live.specs.Live.{LiveQueue}
+use Rattle.gate_memory.specs.HeldQueues.{LiveQueue}
 use Rattle.gate_live.proofs.FilledLemmas.{with_items, no_queue, queue_read}
 use Rattle.gate_live.proofs.filling.read_queue.Goals as goal
 

@@ -6,7 +6,8 @@ use Rattle.gate_types.specs.declared.config.Queue.{Queue as QueueSetting}
 use Rattle.gate_types.specs.Tables.{tables}
 use Rattle.gate_types.proofs.PlainLemmas.{all_push}
 use Rattle.gate_book_trait.specs.RowReads.{rows_named}
-use Rattle.gate_live.specs.Live.{LiveQueue, live_queue}
+use Rattle.gate_memory.specs.HeldQueues.{LiveQueue}
+use Rattle.gate_live.specs.Live.{live_queue}
 use Rattle.gate_live.specs.Held.{IsKeptQueue, queue_of}
 use Rattle.gate_live.specs.declared.held_queue.HeldQueue.{HeldQueue}
 use Rattle.gate_book_trait.proofs.KeptLemmas.{then}

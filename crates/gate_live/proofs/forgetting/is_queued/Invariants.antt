@@ -1,6 +1,6 @@
 use Rattle.std.proofs.Common.{◌≡◌, map, drop}
 use Rattle.std.specs.Prelude.{◌==◌, find}
-use Rattle.gate_live.specs.Live.{live_queued}
+use Rattle.gate_memory.specs.HeldQueues.{live_queued}
 use Rattle.gate_live.specs.Held.{queue_of}
 use Rattle.gate_live.proofs.forgetting.is_queued.Given as goal
 

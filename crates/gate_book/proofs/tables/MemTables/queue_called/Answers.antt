@@ -9,5 +9,5 @@ use Rattle.gate_book.proofs.tables.MemTables.queue_called.Goals as goal
 pub returns-clause-found : goal.returns-clause-found
 returns-clause-found c =
     let queues = c.args.self.now.queues.items in
-    let found : option_copied c.queue_of.result ≡ find (λ q. same_name q.name c.args.name.now) queues = rw c.deref.ensures.value at c.queue_of.ensures.found in
+    let found : option_copied c.queue_in.result ≡ find (λ q. same_name q.name c.args.name.now) queues = rw c.deref.ensures.value at c.queue_in.ensures.found in
     ap (option_map queue.rows_of) found ∙ sym (find_map queue.rows_of (λ r. same_name r.name c.args.name.now) queues)

@@ -3,7 +3,7 @@ use Rattle.std.specs.Prelude.{find, option_map}
 use Rattle.std.specs.Option.{option_copied}
 use Rattle.gate_types.specs.Names.{same_name}
 use Rattle.gate_book_trait.proofs.Finding.{find_map}
-use Rattle.gate_live.specs.Live.{LiveQueue}
+use Rattle.gate_memory.specs.HeldQueues.{LiveQueue}
 use Rattle.gate_live.specs.Held.{queue_of}
 use Rattle.gate_live.proofs.held.Held.queue_called.Goals as goal
 

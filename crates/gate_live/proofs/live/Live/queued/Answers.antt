@@ -1,7 +1,8 @@
 use Rattle.std.proofs.Common.{◌∙◌, ap}
 use Rattle.std.specs.Prelude.{◌==◌, find}
 use Rattle.gate_book_trait.specs.declared.rows.QueuedItem.{QueuedItem}
-use Rattle.gate_live.specs.Live.{LiveTables, live_queued}
+use Rattle.gate_memory.specs.HeldQueues.{live_queued}
+use Rattle.gate_live.specs.Live.{LiveTables}
 use Rattle.gate_live.specs.Parts.{Parts}
 use Rattle.gate_live.proofs.BookLemmas.{held_is}
 use Rattle.gate_live.proofs.ReadLemmas.{live_queued_are}

@@ -1,6 +1,7 @@
 use Rattle.std.proofs.Common.{◌∙◌, ap}
 use Rattle.std.specs.Option.{option_map_or}
-use Rattle.gate_live.specs.Live.{LiveTables, LiveQueue, live_named}
+use Rattle.gate_memory.specs.HeldQueues.{LiveQueue}
+use Rattle.gate_live.specs.Live.{LiveTables, live_named}
 use Rattle.gate_live.specs.Parts.{Parts}
 use Rattle.gate_live.proofs.BookLemmas.{held_is}
 use Rattle.gate_live.proofs.ReadLemmas.{live_reports}
