@@ -8,7 +8,7 @@ ghost use Rattle.gate_book.specs.Memory.{IsRefused, adopted, held, start_with};
 use crate::tables::MemTables;
 use crate::writing::write_history;
 use gate_book_trait::{Book, BookFault, HistoryFault, QueuedItem};
-use gate_memory::count_needs;
+use gate_memory::{count_needs, named};
 use gate_types::adopting::may_adopt;
 use gate_types::config::Config;
 use gate_types::edits::Edit;
@@ -136,11 +136,11 @@ impl Book for MemBook {
     }
 
     fn window(&mut self, queue: &Name) -> Result<Option<u32>, BookFault> {
-        Ok(self.tables.window(queue))
+        Ok(named::window(self.tables.queue_named(queue)))
     }
 
     fn item_count(&mut self, queue: &Name) -> Result<u64, BookFault> {
-        Ok(self.tables.item_count(queue))
+        Ok(named::item_count(self.tables.queue_named(queue)))
     }
 
     fn landing_count(&mut self, queue: &Name) -> Result<u64, BookFault> {
@@ -156,7 +156,8 @@ impl Book for MemBook {
     }
 
     fn items(&mut self, queue: &Name) -> Result<Sequence<Item>, BookFault> {
-        Ok(self.tables.items(self.alloc, queue)?)
+        let table = self.tables.queue_named(queue);
+        Ok(named::items(self.alloc, table)?)
     }
 
     fn item(&mut self, serial: Serial) -> Result<Option<Item>, BookFault> {
@@ -168,11 +169,11 @@ impl Book for MemBook {
     }
 
     fn next_item(&mut self, queue: &Name, above: u64) -> Result<Option<Item>, BookFault> {
-        Ok(self.tables.next_item(queue, above))
+        Ok(named::next_item(self.tables.queue_named(queue), above))
     }
 
     fn last_item(&mut self, queue: &Name, below: u64) -> Result<Option<Item>, BookFault> {
-        Ok(self.tables.last_item(queue, below))
+        Ok(named::last_item(self.tables.queue_named(queue), below))
     }
 
     fn next_items(
@@ -181,7 +182,8 @@ impl Book for MemBook {
         above: u64,
         most: u32,
     ) -> Result<Sequence<Item>, BookFault> {
-        Ok(self.tables.next_items(self.alloc, queue, above, most)?)
+        let table = self.tables.queue_named(queue);
+        Ok(named::next_items(self.alloc, table, above, most)?)
     }
 
     fn needing(

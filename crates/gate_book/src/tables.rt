@@ -3,9 +3,8 @@ ghost use Rattle.std.specs.Prelude.{◌≡◌, ◌==◌, ◌+◌, ℕ, suc, leng
 ghost use Rattle.std.specs.Prelude.{IfSome};
 ghost use Rattle.std.specs.List.{AllByRecursion};
 ghost use Rattle.std.specs.Option.{option_copied, option_map_or};
-ghost use Rattle.gate_types.specs.Names.{same_name};
 ghost use Rattle.gate_types.specs.Once.{kept_for};
-ghost use Rattle.gate_types.specs.Tables.{edited_queue, set_counter, edited_tables, fold_all, tables};
+ghost use Rattle.gate_types.specs.Tables.{edited_queue, edited_tables, fold_all, tables};
 ghost use Rattle.gate_memory.specs.Changes as change_table;
 ghost use Rattle.gate_memory.specs.Queues as queue;
 ghost use Rattle.gate_memory.specs.Builds.{is_live_of};
@@ -14,31 +13,24 @@ ghost use Rattle.gate_book_trait.specs.Reads as read;
 ghost use Rattle.gate_book_trait.specs.RowReads.{approval_in, change_in, rows_named, items_named, needing_in};
 ghost use Rattle.gate_book_trait.specs.RowReads.{plans_of_rows, all_queued, landings_below, LandingsRise};
 ghost use Rattle.gate_memory.specs.TableReads.{IsWhatRowsTellOf, builds_of_rows};
-ghost use Rattle.gate_book.specs.Memory.{tables_of, IsKept, HasRoom, HasRoomBeside, drawn_of, start_with};
+ghost use Rattle.gate_book.specs.Memory.{tables_of, IsKept, HasRoom, HasRoomBeside, start_with};
 ghost use Rattle.gate_types.specs.AdoptedTables.{adopted_tables, empty_rows};
 ghost use Rattle.gate_types.specs.Counters.{capped};
 
 use crate::adopting::adopt_queues;
 use gate_book_trait::QueuedItem;
 use gate_memory::{
-    BuildTable, ChangeTable, PlanTable, QueueTable, ReplyTable, builds_of, needing_of, plans_of,
+    BuildTable, ChangeTable, LastNumbers, PlanTable, QueueTable, ReplyTable, apply_to_queues,
+    builds_of, item_in, make_queues_room, needing_of, plans_of, queue_in, queued_in,
 };
 use gate_types::config::{Config, Queue};
-use gate_types::edits::{Counter, Edit};
+use gate_types::edits::Edit;
 use gate_types::names::{Name, NoMemory};
-use gate_types::numbers::{BuildNo, ChangeNo, LAST_NUMBER, Serial};
+use gate_types::numbers::{BuildNo, ChangeNo, Serial};
 use gate_types::records::{Build, Change, Counters, Id, Item, Kept, Plan, Ready};
 use gate_types::rows::ChangeRow;
 use gate_types::sequence::Sequence;
 use std::alloc::{AllocError, Global};
-
-/// The last number drawn of each kind, as edits set them.
-#[derive(Clone, Copy)]
-struct LastNumbers {
-    approval: u64,
-    build: u64,
-    order: u64,
-}
 
 /// The tables: the queues stand in the order of the settings.
 #[derive(Drop)]
@@ -49,26 +41,6 @@ pub struct MemTables {
     pub(crate) builds: BuildTable,
     drawn: LastNumbers,
     pub(crate) replies: ReplyTable,
-}
-
-fn drawn_by(counters: Counters) -> LastNumbers
-    ensures { drawn_of result ≡ counters }
-{
-    LastNumbers {
-        approval: counters.approval,
-        build: counters.build,
-        order: counters.order,
-    }
-}
-
-fn set_counter(drawn: &mut LastNumbers, counter: Counter, number: u64)
-    ensures { drawn_of drawn.new ≡ set_counter counter number (drawn_of drawn.old) }
-{
-    match counter {
-        Counter::Approval => drawn.approval = number,
-        Counter::Build => drawn.build = number,
-        Counter::Order => drawn.order = number,
-    }
 }
 
 /// The queues of the settings, with nothing in them.
@@ -84,20 +56,17 @@ fn empty_queues(alloc: Global, settings: &[Queue]) -> Result<Vec<QueueTable>, No
 }
 
 /// Makes room for `n` more rows in each queue.
-fn make_queues_room(queues: &mut Vec<QueueTable>, n: usize) -> Result<(), AllocError>
+fn make_room_in(queues: &mut Vec<QueueTable>, n: usize) -> Result<(), AllocError>
     requires { AllByRecursion queue.IsKept queues.old.items }
     ensures rows { map queue.rows_of queues.new.items ≡ map queue.rows_of queues.old.items }
     ensures kept { AllByRecursion queue.IsKept queues.new.items }
     ensures room { OnOk result (AllByRecursion (queue.HasRoom n) queues.new.items) }
 {
-    for queue in queues.iter_mut() {
-        queue.make_room(n)?;
-    }
-    Ok(())
+    make_queues_room(queues, n)
 }
 
 /// One edit of each queue, where there is room.
-fn apply_to_queues(queues: &mut Vec<QueueTable>, edit: &Edit)
+fn apply_in(queues: &mut Vec<QueueTable>, edit: &Edit)
     requires kept { AllByRecursion queue.IsKept queues.old.items }
     requires room { AllByRecursion (queue.HasRoom 1) queues.old.items }
     ensures rows { map queue.rows_of queues.new.items
@@ -106,46 +75,7 @@ fn apply_to_queues(queues: &mut Vec<QueueTable>, edit: &Edit)
     ensures room { (n : ℕ) → AllByRecursion (queue.HasRoom (suc n)) queues.old.items
         → AllByRecursion (queue.HasRoom n) queues.new.items }
 {
-    for queue in queues.iter_mut() {
-        queue.apply(edit);
-    }
-}
-
-/// The item of a serial, in whichever queue it stands.
-fn item_in(queues: &[QueueTable], serial: Serial) -> Option<&Item>
-    requires { AllByRecursion queue.IsKept queues.now }
-    ensures { option_copied result
-        ≡ option_map (λ k. k.item) (find (λ k. k.item.serial == serial) (all_queued (map queue.rows_of queues.now))) }
-{
-    for queue in queues {
-        if let Some(item) = queue.item(serial) {
-            return Some(item);
-        }
-    }
-    None
-}
-
-/// The item of a change, with the name of its queue.
-fn queued_in(queues: &[QueueTable], change: ChangeNo) -> Result<Option<QueuedItem>, NoMemory>
-    requires { AllByRecursion queue.IsKept queues.now }
-    ensures { IfOk result (λ found. found
-        ≡ find (λ k. k.item.change == change) (all_queued (map queue.rows_of queues.now))) }
-{
-    for queue in queues {
-        if let Some(found) = queue.queued(change)? {
-            return Ok(Some(found));
-        }
-    }
-    Ok(None)
-}
-
-/// The queue of a name.
-fn queue_of<'a>(queues: &'a [QueueTable], name: &str) -> Option<&'a QueueTable>
-    requires { AllByRecursion queue.IsKept queues.now }
-    ensures found { option_copied result ≡ find (λ q. same_name q.name name.now) queues.now }
-    ensures kept { IfSome result (λ q. queue.IsKept q.now) }
-{
-    queues.iter().find(|queue| queue.has_name(name))
+    apply_to_queues(queues, edit);
 }
 
 impl MemTables {
@@ -158,7 +88,7 @@ impl MemTables {
             queues: empty_queues(alloc, config.queues.as_slice())?,
             plans: PlanTable::new(alloc),
             builds: BuildTable::new(alloc),
-            drawn: drawn_by(counters),
+            drawn: LastNumbers::from_counters(counters),
             replies: ReplyTable::new(alloc),
         })
     }
@@ -195,7 +125,7 @@ impl MemTables {
         ensures room { OnOk result (HasRoom n needs self.new) }
     {
         self.changes.make_room(n, needs)?;
-        make_queues_room(&mut self.queues, n)?;
+        make_room_in(&mut self.queues, n)?;
         self.plans.make_room(n)?;
         self.builds.make_room(n)?;
         self.replies.make_room(n)?;
@@ -210,7 +140,7 @@ impl MemTables {
         ensures kept { IsKept self.new }
         ensures room { (n m : ℕ) → HasRoom (suc n) (needs_of edit + m) self.old → HasRoom n m self.new }
     {
-        apply_to_queues(&mut self.queues, &edit);
+        apply_in(&mut self.queues, &edit);
         self.apply_to_others(edit);
     }
 
@@ -233,7 +163,7 @@ impl MemTables {
             Edit::PutBuild(build) => self.builds.put(build),
             Edit::SetOutcome { build, outcome } => self.builds.set_outcome(build, outcome),
             Edit::StopBuild(build) => self.builds.stop(build),
-            Edit::SetCounter { counter, drawn } => set_counter(&mut self.drawn, counter, drawn),
+            Edit::SetCounter { counter, drawn } => self.drawn.set(counter, drawn),
             Edit::Keep(kept) => self.replies.keep(kept),
             _ => {}
         }
@@ -258,11 +188,11 @@ impl MemTables {
             ≡ rows_named (tables_of self.now).queues name.now }
         ensures kept { IfSome result (λ q. queue.IsKept q.now) }
     {
-        queue_of(&self.queues, name)
+        queue_in(&self.queues, name)
     }
 
     /// The queue of a name.
-    fn queue_named(&self, name: &Name) -> Option<&QueueTable>
+    pub(crate) fn queue_named(&self, name: &Name) -> Option<&QueueTable>
         requires { IsKept self.now }
         ensures found { option_map queue.rows_of (option_copied result)
             ≡ rows_named (tables_of self.now).queues name.now }
@@ -283,26 +213,6 @@ impl MemTables {
         ensures { IfOk result (λ found. found ≡ change_in (tables_of self.now).changes number) }
     {
         self.changes.get(number)
-    }
-
-    pub(crate) fn window(&self, queue: &Name) -> Option<u32>
-        requires { IsKept self.now }
-        ensures { result ≡ option_map (λ q. q.window) (rows_named (tables_of self.now).queues queue.now) }
-    {
-        match self.queue_named(queue) {
-            Some(queue) => Some(queue.window()),
-            None => None,
-        }
-    }
-
-    pub(crate) fn item_count(&self, queue: &Name) -> u64
-        requires { IsKept self.now }
-        ensures { result ≡ length (items_named (tables_of self.now).queues queue.now) }
-    {
-        match self.queue_named(queue) {
-            Some(queue) => queue.item_count(),
-            None => 0,
-        }
     }
 
     pub(crate) fn landing_count(&self, queue: &Name) -> u64
@@ -337,16 +247,6 @@ impl MemTables {
         }
     }
 
-    pub(crate) fn items(&self, alloc: Global, queue: &Name) -> Result<Sequence<Item>, NoMemory>
-        requires { IsKept self.now }
-        ensures { IfOk result (λ found. found ≡ items_named (tables_of self.now).queues queue.now) }
-    {
-        match self.queue_named(queue) {
-            Some(queue) => queue.items(alloc),
-            None => Ok(Sequence::new(alloc)),
-        }
-    }
-
     pub(crate) fn item(&self, serial: Serial) -> Option<Item>
         requires { IsKept self.now }
         ensures { result
@@ -361,43 +261,6 @@ impl MemTables {
             ≡ find (λ k. k.item.change == change) (all_queued (tables_of self.now).queues)) }
     {
         queued_in(&self.queues, change)
-    }
-
-    pub(crate) fn next_item(&self, queue: &Name, above: u64) -> Option<Item>
-        requires { IsKept self.now }
-        ensures { result ≡ read.first_above above (items_named (tables_of self.now).queues queue.now) }
-    {
-        match self.queue_named(queue) {
-            Some(queue) => queue.next_item(above),
-            None => None,
-        }
-    }
-
-    pub(crate) fn last_item(&self, queue: &Name, below: u64) -> Option<Item>
-        requires { IsKept self.now }
-        ensures { result ≡ read.last_below below (items_named (tables_of self.now).queues queue.now) }
-    {
-        match self.queue_named(queue) {
-            Some(queue) => queue.last_item(below),
-            None => None,
-        }
-    }
-
-    pub(crate) fn next_items(
-        &self,
-        alloc: Global,
-        queue: &Name,
-        above: u64,
-        most: u32,
-    ) -> Result<Sequence<Item>, NoMemory>
-        requires { IsKept self.now }
-        ensures { IfOk result (λ found. found
-            ≡ read.first_items_above above most (items_named (tables_of self.now).queues queue.now)) }
-    {
-        match self.queue_named(queue) {
-            Some(queue) => queue.next_items(alloc, above, most),
-            None => Ok(Sequence::new(alloc)),
-        }
     }
 
     pub(crate) fn needing(
@@ -516,10 +379,6 @@ impl MemTables {
     pub(crate) fn counters(&self) -> Counters
         ensures { result ≡ capped (tables_of self.now).counters }
     {
-        Counters {
-            approval: self.drawn.approval.min(LAST_NUMBER),
-            build: self.drawn.build.min(LAST_NUMBER),
-            order: self.drawn.order.min(LAST_NUMBER),
-        }
+        self.drawn.counters()
     }
 }

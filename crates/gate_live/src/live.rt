@@ -21,6 +21,7 @@ use crate::held_plans::HeldPlans;
 use crate::items::{apply_to_items, copies, holds_item};
 use crate::live_changes::{edit, hold_found, needing_over, prepare};
 use gate_book_trait::{Book, BookFault, QueuedItem};
+use gate_memory::named;
 use gate_types::edits::Edit;
 use gate_types::names::Name;
 use gate_types::numbers::{ChangeNo, Serial};
@@ -158,7 +159,7 @@ impl Live {
             found ≡ read.window_of x.state queue.now) }
     {
         match &self.held {
-            Some(held) => Some(held.window(queue)),
+            Some(held) => Some(named::window(held.table_of(queue))),
             None => None,
         }
     }
@@ -168,7 +169,7 @@ impl Live {
             found ≡ read.item_count c x.state queue.now) }
     {
         match &self.held {
-            Some(held) => Some(held.item_count(queue)),
+            Some(held) => Some(named::item_count(held.table_of(queue))),
             None => None,
         }
     }
@@ -201,7 +202,7 @@ impl Live {
         let Some(held) = &self.held else {
             return None;
         };
-        match held.items(alloc, queue) {
+        match named::items(alloc, held.table_of(queue)) {
             Ok(found) => Some(found),
             Err(_) => None,
         }
@@ -238,7 +239,7 @@ impl Live {
         ensures rises { IfSome result (λ found. IfSome found (λ i. above < i.serial)) }
     {
         match &self.held {
-            Some(held) => Some(held.next_item(queue, above)),
+            Some(held) => Some(named::next_item(held.table_of(queue), above)),
             None => None,
         }
     }
@@ -249,7 +250,7 @@ impl Live {
         ensures falls { IfSome result (λ found. IfSome found (λ i. i.serial < below)) }
     {
         match &self.held {
-            Some(held) => Some(held.last_item(queue, below)),
+            Some(held) => Some(named::last_item(held.table_of(queue), below)),
             None => None,
         }
     }
@@ -269,7 +270,7 @@ impl Live {
         let Some(held) = &self.held else {
             return None;
         };
-        match held.next_items(alloc, queue, above, most) {
+        match named::next_items(alloc, held.table_of(queue), above, most) {
             Ok(found) => Some(found),
             Err(_) => None,
         }

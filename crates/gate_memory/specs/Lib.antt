@@ -8,3 +8,6 @@ pub mod Reports
 pub mod Queues
 pub mod Replies
 pub mod TableReads
+pub mod HeldQueues
+pub mod Named
+pub mod Drawn

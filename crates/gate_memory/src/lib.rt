@@ -11,6 +11,9 @@
 mod builds;
 mod changes;
 mod collecting;
+mod drawn;
+mod holding;
+pub mod named;
 mod needs;
 mod pairs;
 mod plans;
@@ -23,6 +26,8 @@ mod telling;
 pub use builds::BuildTable;
 pub use changes::ChangeTable;
 pub use collecting::{builds_of, needing_of, plans_of};
+pub use drawn::LastNumbers;
+pub use holding::{HoldsQueue, apply_to_queues, item_in, make_queues_room, queue_in, queued_in};
 pub use needs::count_needs;
 pub use plans::PlanTable;
 pub use queues::QueueTable;

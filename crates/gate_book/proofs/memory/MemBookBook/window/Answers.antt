@@ -10,4 +10,4 @@ pub returns-clause-found : goal.returns-clause-found
 returns-clause-found c _ s x held lawful =
     let same = ap (λ (m : Held). m.tables) (c.self.view_is ∙ held) in
     let name = c.args.queue.now in
-    c.window.ensures ∙ ap (λ (t : Tables). option_map (λ r. r.window) (rows_named t.queues name)) same ∙ window_is s x name
+    c.window.ensures ∙ ap (option_map (λ r. r.window)) c.queue_named.ensures.found ∙ ap (λ (t : Tables). option_map (λ r. r.window) (rows_named t.queues name)) same ∙ window_is s x name

@@ -8,6 +8,6 @@ use Rattle.gate_live.proofs.live.Live.item_count.Goals as goal
 
 pub returns-in-Some : goal.returns-in-Some
 returns-in-Some c k x agrees =
-    c.item_count.ensures
+    c.item_count.ensures ∙ ap length c.table_of.ensures.found
     ∙ ap (λ (l : LiveTables). length (live_items l.queues c.args.queue.now)) (held_is k x c.args.self.now c.self.inside.held _ (ap (λ (p : Parts). p.tables) c.self.view_is) c.in-Some.is agrees)
     ∙ ap length (live_items_are k x c.args.queue.now)

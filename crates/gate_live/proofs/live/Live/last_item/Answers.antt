@@ -10,7 +10,7 @@ use Rattle.gate_live.proofs.live.Live.last_item.Goals as goal
 
 pub returns-in-Some-clause-found : goal.returns-in-Some-clause-found
 returns-in-Some-clause-found c k x agrees =
-    c.last_item.ensures
+    c.last_item.ensures ∙ ap (read.last_below c.args.below) c.table_of.ensures.found
     ∙ ap (λ (l : LiveTables). read.last_below c.args.below (live_items l.queues c.args.queue.now)) (held_is k x c.args.self.now c.self.inside.held _ (ap (λ (p : Parts). p.tables) c.self.view_is) c.in-Some.is agrees)
     ∙ ap (read.last_below c.args.below) (live_items_are k x c.args.queue.now)
 

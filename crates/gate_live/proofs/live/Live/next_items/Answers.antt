@@ -8,6 +8,6 @@ use Rattle.gate_live.proofs.live.Live.next_items.Goals as goal
 
 pub returns-in-Ok : goal.returns-in-Ok
 returns-in-Ok c k x agrees =
-    c.in-Ok.ensures
+    c.in-Ok.ensures ∙ ap (read.first_items_above c.args.above c.args.most) c.table_of.ensures.found
     ∙ ap (λ (l : LiveTables). read.first_items_above c.args.above c.args.most (live_items l.queues c.args.queue.now)) (held_is k x c.args.self.now c.self.inside.held _ (ap (λ (p : Parts). p.tables) c.self.view_is) c.in-Some.is agrees)
     ∙ ap (read.first_items_above c.args.above c.args.most) (live_items_are k x c.args.queue.now)
