@@ -13,7 +13,7 @@ use crate::fault::HttpFault;
 use crate::head::{Came, HEAD_LIMIT, read_head};
 use crate::request::{Decision, decide};
 use crate::request_fault::RequestFault;
-use crate::respond::{Respond, Told};
+use crate::respond::{AnswerIfAny, Respond};
 use crate::response::{Extent, Form, HEAD_ROOM, Media};
 use crate::routes::{Route, router};
 use crate::served::Served;
@@ -74,12 +74,51 @@ fn answer<G: Respond, R: Read, W: Write>(
         Decision::Post(door, n) => match read_body(reader, body, n) {
             Ok(true) => {
                 let said = gate.hear(alloc, door, body.as_slice());
-                tell(writer, room, form, &Told::Answer(said), Media::Json)
+                tell(writer, room, form, &AnswerIfAny::Answer(said), Media::Json)
             }
             Ok(false) => refuse(writer, room, form, HttpFault::Cut, Extent::Whole),
             Err(_) => Err(RequestFault::Read),
         },
         Decision::Read(wanted) => answer_wanted(alloc, gate, writer, room, form, wanted),
+    }
+}
+
+/// Answers one request by these routes. All memory of its own is taken before the first read.
+pub(crate) fn answer_routed<G: Respond, R: Read, W: Write>(
+    alloc: Global,
+    gate: &mut G,
+    reader: &mut Tap<R>,
+    writer: &mut Tap<W>,
+    router: &Router<Route>,
+) -> Result<Served, RequestFault>
+    requires reader { has_failed reader.old ≡ false }
+    requires writer { has_failed writer.old ≡ false }
+    requires router { router.now ≡ routes }
+    ensures ok { IfOk result (λ served. AnswersTo G.responds G.recalls R.remaining W.contents
+        reader.old reader.new gate.old gate.new writer.old writer.new served) }
+    ensures write { IsErrOf result RequestFault.Write → BreaksTo G.responds G.recalls R.remaining W.contents
+        reader.old reader.new gate.old gate.new writer.old writer.new }
+    ensures read { IsErrOf result RequestFault.Read →
+        Waits (R.remaining (inside reader.old)) (R.remaining (inside reader.new))
+        × (gate.new ≡ gate.old) × (writer.new ≡ writer.old) }
+    ensures memory { IsErrOf result RequestFault.NoMemory →
+        (gate.new ≡ gate.old) × (reader.new ≡ reader.old) × (writer.new ≡ writer.old) }
+    ensures store { IsErrOf result RequestFault.Store → StopsAt G.recalls R.remaining W.contents
+        reader.old reader.new gate.old gate.new writer.old writer.new }
+    ensures unfailed { OnOk result (has_failed writer.new ≡ false) }
+    ensures store_unfailed { IsErrOf result RequestFault.Store → has_failed writer.new ≡ false }
+    ensures reader_failed { IsErrOf result RequestFault.Read → has_failed reader.new ≡ true }
+    ensures writer_failed { IsErrOf result RequestFault.Write → has_failed writer.new ≡ true }
+{
+    match (
+        Vec::with_capacity(alloc, HEAD_LIMIT),
+        Vec::with_capacity(alloc, MOST_BYTES),
+        Vec::with_capacity(alloc, HEAD_ROOM),
+    ) {
+        (Ok(mut head), Ok(mut body), Ok(mut room)) => answer(
+            alloc, gate, reader, writer, router, &mut head, &mut body, &mut room,
+        ),
+        _ => Err(RequestFault::NoMemory),
     }
 }
 
@@ -115,15 +154,8 @@ pub fn answer_request<G: Respond, R: Read, W: Write>(
     ensures reader_failed { IsErrOf result RequestFault.Read → has_failed reader.new ≡ true }
     ensures writer_failed { IsErrOf result RequestFault.Write → has_failed writer.new ≡ true }
 {
-    match (
-        router(alloc),
-        Vec::with_capacity(alloc, HEAD_LIMIT),
-        Vec::with_capacity(alloc, MOST_BYTES),
-        Vec::with_capacity(alloc, HEAD_ROOM),
-    ) {
-        (Ok(router), Ok(mut head), Ok(mut body), Ok(mut room)) => answer(
-            alloc, gate, reader, writer, &router, &mut head, &mut body, &mut room,
-        ),
-        _ => Err(RequestFault::NoMemory),
+    match router(alloc) {
+        Ok(router) => answer_routed(alloc, gate, reader, writer, &router),
+        Err(_) => Err(RequestFault::NoMemory),
     }
 }

@@ -2,7 +2,7 @@
 use Rattle.gate_http.specs.Connections.{CalledOver}
 use Rattle.gate_core.specs.Held.{Goes}
 use Rattle.gate_http.proofs.ConnectionLemmas.{Tells}
-use Rattle.gate_http.proofs.connections.serve.Given as goal
+use Rattle.gate_http.proofs.connections.serve_each.Given as goal
 
 abbrev pub invariant-loop : goal.invariant-loop
 invariant-loop g l = record {
