@@ -32,7 +32,8 @@ use Rattle.gate_types.specs.Rising.{In}
 use Rattle.gate_types.proofs.NameLemmas.{same_name_is}
 use Rattle.gate_laws.proofs.Places.{item_of_place}
 use Rattle.gate_reads.specs.Moves.{Moves}
-use Rattle.gate_reads.specs.Touches.{Touches}
+use Rattle.gate_reads.specs.declared.touched.QueueFigures.{QueueFigures}
+use Rattle.gate_reads.specs.Touches.{AreFigures, Touches}
 use Rattle.gate_reads.specs.declared.touched.Event.TheVariants as event
 use Rattle.gate_reads.proofs.Queues.{named_itself}
 use Rattle.gate_ruling.proofs.Folded.{by_parts}
@@ -87,10 +88,11 @@ serial_queue c s sound q m i mi = by_found (find (λ o. has_serial o.items i.ser
         let one = serial_alone c s sound o q j.0 i x.0 m j.1 mi (eqb-true j.0.serial i.serial j.2) in
         ap (λ (q : Queue). Some q.name) one.0
 
-pub ended_touches : (c : Settings) (s : State) (n : ℕ) (e : Ending) (b : Build) (row : ItemRow) → are_sound c ≡ true →
-    IsSound c s → build_of s n ≡ Some b → item_at c s b.serial ≡ Some row →
-    Touches c s (delivery.Result n e) (Some (record { queue = b.queue; item = row; event = event.Ended n e }))
-ended_touches c s n e b row settings sound known there =
+pub ended_touches : (c : Settings) (s : State) (n : ℕ) (e : Ending) (b : Build) (row : ItemRow) (f : QueueFigures) →
+    are_sound c ≡ true → IsSound c s → build_of s n ≡ Some b → item_at c s b.serial ≡ Some row →
+    AreFigures s b.queue f → Touches c s (delivery.Result n e)
+    (Some (record { queue = b.queue; item = row; event = event.Ended n e; figures = f }))
+ended_touches c s n e b row f settings sound known there figures =
     let h = at_serial c s b.serial row there in
     let q = h.queue in
     let mb = (found (λ (y : Build). y.number == n) s.builds b known).0 in
@@ -108,6 +110,7 @@ ended_touches c s n e b row settings sound known there =
       on = ap (λ o. option_map_or (λ (y : Build). y.serial == row.serial) o false) known
           ∙ eq-eqb b.serial row.serial (sym h.serial);
       event = refl;
+      figures = figures;
     }
 
 pub ended_moves : (x : Content) (n : ℕ) (e : Ending) →

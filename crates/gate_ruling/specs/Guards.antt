@@ -4,13 +4,15 @@ use Rattle.gate_types.specs.declared.records.Change.{Change}
 use Rattle.gate_types.specs.declared.deliveries.Delivery.{Delivery}
 use Rattle.gate_types.specs.declared.deliveries.Reply.TheVariants as reply
 use Rattle.gate_types.specs.Settings.{Settings}
-use Rattle.gate_types.specs.State.{State, known_change}
+use Rattle.gate_types.specs.State.{State, known_change, plan_of}
 use Rattle.gate_types.specs.SubmitOrder.{Order, shown_order}
 use Rattle.gate_types.specs.Step.{Stepped, accepted, on_known, on_order, raw_step}
 use Rattle.gate_types.specs.Once.{Content}
 use Rattle.gate_book_trait.specs.declared.rows.QueuedItem.{QueuedItem}
+use Rattle.gate_book_trait.specs.Reads.{live_builds}
 use Rattle.gate_reads.specs.Raw.{IsRaw}
 use Rattle.gate_reads.specs.declared.raw.Raw.{Raw}
+use Rattle.gate_reads.specs.declared.orders.ShownItem.{ShownItem}
 use Rattle.gate_reads.specs.Orders.{IsRowOf}
 
 -- stale where a later revision of the change is known, else as the other lines say
@@ -35,8 +37,11 @@ pub record HasOrder (c : Settings) (s : State) (number : ℕ) (k : QueuedItem) :
   pub goes : (f : Order → Stepped) → on_order c s number f ≡ f order
   pub row : IsRowOf c s k.queue k.item order
 
--- this is the row of the item of a shown order; or it is what each delivery on this order comes to
-abbrev pub IsOrdered : Settings → Content → ℕ → Result QueuedItem Raw → Type 0
-IsOrdered c x number (Ok k) = HasOrder c x.state number k
+-- this is the item of a shown order, with its plan and its live builds; or it is what each delivery on this order
+-- comes to
+abbrev pub IsOrdered : Settings → Content → ℕ → Result ShownItem Raw → Type 0
+IsOrdered c x number (Ok k) =
+    HasOrder c x.state number k.queued × (k.plan ≡ plan_of x.state k.queued.item.serial) ×
+    (k.builds ≡ live_builds x.state k.queued.item.serial)
 IsOrdered c x number (Err raw) =
     (f : Order → Stepped) (d : Delivery) → raw_step c x.state d ≡ on_order c x.state number f → IsRaw c x d raw

@@ -4,8 +4,8 @@ ghost use Rattle.gate_book_trait.specs.Faults.{MayAnswer};
 ghost use Rattle.gate_book_trait.specs.Kept.{OfHeld, OfHeldUnder, IsKept};
 ghost use Rattle.gate_ruling.specs.Guards.{IsLatest, IsOrdered};
 
-use gate_book_trait::{Book, BookFault, QueuedItem};
-use gate_reads::{Raw, shown_order};
+use gate_book_trait::{Book, BookFault};
+use gate_reads::{Raw, ShownItem, shown_order};
 use gate_types::config::Config;
 use gate_types::deliveries::{Refusal, Reply};
 use gate_types::numbers::{ChangeNo, Revision, Serial};
@@ -35,20 +35,20 @@ pub(crate) fn latest<B: Book>(
     Ok(Ok(known))
 }
 
-/// The row of the item whose order is shown under this number; else what a delivery that names it comes to.
+/// The item whose order is shown under this number; else what a delivery that names it comes to.
 pub(crate) fn ordered<B: Book>(
     alloc: Global,
     book: &mut B,
     config: &Config,
     order: Serial,
-) -> Result<Result<QueuedItem, Raw>, BookFault>
+) -> Result<Result<ShownItem, Raw>, BookFault>
     ensures ordered { OfHeldUnder B.IsTrusted B.Holds book.old book.new config.now (λ x.
         IfOk result (IsOrdered config.now x order)) }
     ensures kept { IsKept B.IsTrusted B.Holds B.LeavesOneOf book.old book.new }
     ensures fault { IfErr result (MayAnswer B.MayFault) }
 {
     match shown_order(alloc, book, config, order)? {
-        Some(queued) => Ok(Ok(queued)),
+        Some(shown) => Ok(Ok(shown)),
         None => Ok(Err(Raw::Refused(Refusal::NoOrder))),
     }
 }

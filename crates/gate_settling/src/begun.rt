@@ -1,16 +1,15 @@
 //! A walk before its first visit.
-ghost use Rattle.std.specs.Prelude.{◌≡◌, option_map, IfOk, MatchOption, IfErr};
+ghost use Rattle.std.specs.Prelude.{◌≡◌, option_map, IfOk, MatchOption};
+ghost use Rattle.gate_types.specs.Once.{Content};
 ghost use Rattle.gate_walk.specs.TakenOut.{out_of};
 ghost use Rattle.gate_walk.specs.UnderWay.{Starts};
-ghost use Rattle.gate_book_trait.specs.Kept.{OfHeldUnder, IsKept};
 ghost use Rattle.gate_settling.specs.Rows as rows;
 ghost use Rattle.gate_settling.specs.Touching.{Touching, delivered};
-ghost use Rattle.gate_book_trait.specs.Faults.{MayAnswer};
 
 use crate::rows::{has_landed, is_out};
-use gate_book_trait::{Book, BookFault};
 use gate_reads::{TouchedItem, window_now};
 use gate_types::config::Config;
+use gate_types::names::NoMemory;
 use gate_types::numbers::LAST_NUMBER;
 use gate_walk::{QueueFacts, TakenOut, Touched, Walk};
 use std::alloc::Global;
@@ -42,25 +41,21 @@ fn starting_point(touched: &TouchedItem) -> Touched
 }
 
 /// The walk for a touched item, before its first visit; none where its queue isn't there.
-pub(crate) fn begun<B: Book>(
+pub(crate) fn begun(
     alloc: Global,
-    book: &mut B,
     config: &Config,
     touched: &TouchedItem,
-) -> Result<Option<Walk>, BookFault>
-    ensures begun { OfHeldUnder B.IsTrusted B.Holds book.old book.new config.now (λ x.
-        (h : Touching config.now x touched.now) →
-        IfOk result (λ found. MatchOption found ⊥ (λ walk. Starts (delivered h) walk))) }
-    ensures kept { IsKept B.IsTrusted B.Holds B.LeavesOneOf book.old book.new }
-    ensures fault { IfErr result (MayAnswer B.MayFault) }
+) -> Result<Option<Walk>, NoMemory>
+    ensures { IfOk result (λ found. (x : Content) (h : Touching config.now x touched.now) →
+        MatchOption found ⊥ (λ walk. Starts (delivered h) walk)) }
 {
     let Some(settings) = config.queue(touched.queue.as_str()) else {
         return Ok(None);
     };
-    let Some(window) = book.window(&touched.queue)? else {
+    let Some(window) = touched.figures.window else {
         return Ok(None);
     };
-    let before = book.reports(&touched.queue)?;
+    let before = touched.figures.reports;
     if before >= LAST_NUMBER {
         return Ok(None);
     }

@@ -55,7 +55,7 @@ fn edits_of_walk<B: Book>(
     ensures kept { IsKept B.IsTrusted B.Holds B.LeavesOneOf book.old book.new }
     ensures fault { IfErr result (MayAnswer B.MayFault) }
 {
-    match begun(alloc, book, config, touched)? {
+    match begun(alloc, config, touched)? {
         Some(walk) => Ok(walked(alloc, book, config, touched, walk)?.into_edits()),
         None => Ok(Vec::new(alloc)),
     }

@@ -3,6 +3,7 @@ ghost use Rattle.std.specs.Prelude.{◌≡◌, ◌≤◌, ℕ, IfOk, IfSome, OnO
 ghost use Rattle.gate_book_trait.specs.Kept.{OfHeld, IsKept};
 ghost use Rattle.gate_book_trait.specs.Reads as read;
 ghost use Rattle.gate_settling.specs.Rows as rows;
+ghost use Rattle.gate_settling.specs.Touching.{Touching};
 ghost use Rattle.gate_book_trait.specs.Faults.{MayAnswer};
 
 use crate::needing::Needing;
@@ -15,24 +16,22 @@ use gate_types::records::Item;
 use gate_walk::Next;
 use std::alloc::Global;
 
-/// The first row that a walk reads: that of the touched item, or the one behind it.
+/// The first row that a walk reads: that of the touched item, which is told, or the one behind it.
 pub(crate) fn first_wanted<B: Book>(
     book: &mut B,
     touched: &TouchedItem,
 ) -> Result<Option<Item>, BookFault>
-    ensures row { OfHeld B.IsTrusted B.Holds book.old book.new (λ c x. IfOk result (λ row.
+    ensures row { OfHeld B.IsTrusted B.Holds book.old book.new (λ c x. (h : Touching c x touched.now) →
+        IfOk result (λ row.
         row ≡ read.first_above (rows.first_behind touched.now) (read.items_in c x.state touched.now.queue))) }
     ensures rises { IfOk result (λ row. IfSome row (λ r. touched.now.item.serial ≤ r.serial)) }
     ensures kept { IsKept B.IsTrusted B.Holds B.LeavesOneOf book.old book.new }
     ensures fault { IfErr result (MayAnswer B.MayFault) }
 {
-    let serial = touched.item.serial.get();
-    let above = if is_out(touched.event) {
-        serial
-    } else {
-        serial - 1
-    };
-    let row = book.next_item(&touched.queue, above)?;
+    if !is_out(touched.event) {
+        return Ok(Some(touched.item));
+    }
+    let row = book.next_item(&touched.queue, touched.item.serial.get())?;
     Ok(row)
 }
 

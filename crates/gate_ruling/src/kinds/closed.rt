@@ -8,9 +8,9 @@ ghost use Rattle.gate_reads.specs.Raw.{IsRaw};
 
 use crate::changing::{is_open, put_at};
 use crate::guards::latest;
-use crate::leaving::{Left, give_up_place};
+use crate::leaving::{Left, give_up_place, is_submitting};
 use gate_book_trait::{Book, BookFault};
-use gate_reads::{Moved, PendingReply, Raw, is_submitting, stand_of};
+use gate_reads::{Moved, PendingReply, Raw, queue_place};
 use gate_types::config::Config;
 use gate_types::deliveries::{Refusal, Reply};
 use gate_types::numbers::{ChangeNo, Revision};
@@ -48,11 +48,11 @@ pub(crate) fn closed<B: Book>(
     if !is_open(&known) {
         return Ok(Raw::Stands(Reply::Stale));
     }
-    if is_submitting(alloc, book, config, change)? {
+    let place = queue_place(alloc, book, config, change)?;
+    if is_submitting(&place) {
         return Ok(Raw::Refused(Refusal::Submitting));
     }
-    let stand = stand_of(alloc, book, config, change)?;
-    let left = give_up_place(alloc, book, config, stand, Verdict::Closed)?;
+    let left = give_up_place(alloc, book, config, place, Verdict::Closed)?;
     let reply = removed_or_recorded(&left);
     let edits = put_at(left.edits, known, Stage::Closed)?;
     Ok(Raw::Moved(Moved {

@@ -10,7 +10,7 @@ use crate::edits::with_window;
 use crate::guards::ordered;
 use crate::leaving::{leaving, touched};
 use gate_book_trait::{Book, BookFault};
-use gate_reads::{Event, Moved, PendingReply, Raw, window_now};
+use gate_reads::{Event, Moved, PendingReply, Raw, ShownItem, figures_of, window_now};
 use gate_types::config::Config;
 use gate_types::deliveries::Reply;
 use gate_types::numbers::Serial;
@@ -32,20 +32,30 @@ pub(crate) fn refused<B: Book>(
         IfErr result (MayAnswer B.MayFault)) }
 {
     config.show_sound();
-    let queued = match ordered(alloc, book, config, order)? {
-        Ok(queued) => queued,
+    let shown = match ordered(alloc, book, config, order)? {
+        Ok(shown) => shown,
         Err(raw) => return Ok(raw),
     };
-    let Some(window) = book.window(&queued.queue)? else {
+    let ShownItem { queued, builds, .. } = shown;
+    let figures = figures_of(book, &queued.queue)?;
+    let Some(window) = figures.window else {
         return Err(BookFault::Damaged);
     };
-    let edits = leaving(alloc, book, config, &queued, Verdict::Refused)?;
-    let left = Event::Left(Verdict::Refused);
+    let verdict = Verdict::Refused;
+    let edits = leaving(
+        alloc,
+        config,
+        &queued,
+        figures.reports,
+        builds.as_slice(),
+        verdict,
+    )?;
+    let left = Event::Left(verdict);
     let settings = config.queue(queued.queue.as_str());
     let resized = window_now(left, settings, window);
     Ok(Raw::Moved(Moved {
         reply: PendingReply::Now(Reply::Removed),
         edits: with_window(edits, &queued.queue, window, resized)?,
-        touched: Some(touched(queued, left)),
+        touched: Some(touched(queued, figures, left)),
     }))
 }

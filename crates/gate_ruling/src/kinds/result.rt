@@ -12,7 +12,9 @@ ghost use Rattle.gate_ruling.specs.Faults.{MayRule};
 
 use crate::leaving::Left;
 use gate_book_trait::{Book, BookFault};
-use gate_reads::{Event, Moved, PendingReply, Raw, TouchedItem, is_running};
+use gate_reads::{
+    Event, Moved, PendingReply, QueueFigures, Raw, TouchedItem, figures_of, is_running,
+};
 use gate_types::config::Config;
 use gate_types::deliveries::{Ending, Refusal, Reply};
 use gate_types::edits::Edit;
@@ -29,18 +31,19 @@ fn is_under_way(build: &Build) -> bool
     build.live && is_running(build)
 }
 
-/// The edit that notes how a build ended, and its item, which that befell.
+/// The edit that notes how a build ended, and its item, which that befell, in a queue with these figures.
 fn noted(
     alloc: Global,
     known: Build,
     item: Item,
+    figures: QueueFigures,
     build: BuildNo,
     ending: Ending,
 ) -> Result<Left, NoMemory>
     ensures edits { IfOk result (λ left. left.edits.items ≡
         edit.SetOutcome build (outcome_of_ending ending) ∷ []) }
     ensures touched { IfOk result (λ left. left.touched ≡
-        Some (record { queue = known.queue; item = item; event = event.Ended build ending })) }
+        Some (record { queue = known.queue; item = item; event = event.Ended build ending; figures = figures })) }
 {
     let outcome = Edit::SetOutcome {
         build,
@@ -53,6 +56,7 @@ fn noted(
             queue: known.queue,
             item,
             event: Event::Ended { build, ending },
+            figures,
         }),
     })
 }
@@ -82,7 +86,8 @@ pub(crate) fn result<B: Book>(
     let Some(item) = book.item(known.serial)? else {
         return Err(BookFault::Damaged);
     };
-    let left = noted(alloc, known, item, build, ending)?;
+    let figures = figures_of(book, &known.queue)?;
+    let left = noted(alloc, known, item, figures, build, ending)?;
     Ok(Raw::Moved(Moved {
         reply: PendingReply::Now(Reply::Noted),
         edits: left.edits,

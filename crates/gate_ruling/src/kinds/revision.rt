@@ -10,9 +10,9 @@ ghost use Rattle.gate_book_trait.specs.Kept.{OfHeldUnder, IsKept};
 ghost use Rattle.gate_reads.specs.Raw.{IsRaw};
 
 use crate::changing::put_anew;
-use crate::leaving::give_up_place;
+use crate::leaving::{give_up_place, is_submitting};
 use gate_book_trait::{Book, BookFault};
-use gate_reads::{Moved, PendingReply, Raw, is_submitting, stand_of};
+use gate_reads::{Moved, PendingReply, Raw, queue_place};
 use gate_types::config::Config;
 use gate_types::deliveries::{Refusal, Reply};
 use gate_types::names::{Message, PathName};
@@ -78,7 +78,8 @@ pub(crate) fn revision<B: Book>(
     }
     // Ended here, so that none of the early returns below has to end it too.
     drop(known);
-    if is_submitting(alloc, book, config, change)? {
+    let place = queue_place(alloc, book, config, change)?;
+    if is_submitting(&place) {
         return Ok(Raw::Refused(Refusal::Submitting));
     }
     let needs = match needs(alloc, config.base.as_str(), message.as_str()) {
@@ -86,8 +87,7 @@ pub(crate) fn revision<B: Book>(
         Err(Refusal::TooManyNeeds) => return Ok(Raw::Refused(Refusal::TooManyNeeds)),
         Err(_) => return Err(BookFault::NoMemory),
     };
-    let stand = stand_of(alloc, book, config, change)?;
-    let left = give_up_place(alloc, book, config, stand, Verdict::Superseded)?;
+    let left = give_up_place(alloc, book, config, place, Verdict::Superseded)?;
     let edits = put_anew(
         left.edits,
         Change {

@@ -7,9 +7,9 @@ ghost use Rattle.gate_reads.specs.Raw.{IsRaw};
 
 use crate::changing::put_anew;
 use crate::guards::latest;
-use crate::leaving::{leaving, touched};
+use crate::leaving::leave_queue;
 use gate_book_trait::{Book, BookFault};
-use gate_reads::{Event, Moved, PendingReply, Raw, Stand, is_submitting, stand_of};
+use gate_reads::{Moved, PendingReply, QueuePlace, Raw, queue_place};
 use gate_types::config::Config;
 use gate_types::deliveries::{Refusal, Reply};
 use gate_types::numbers::{ChangeNo, Revision};
@@ -33,23 +33,23 @@ pub(crate) fn withdrawn<B: Book>(
         Ok(known) => known,
         Err(raw) => return Ok(raw),
     };
-    if is_submitting(alloc, book, config, change)? {
-        return Ok(Raw::Refused(Refusal::Submitting));
-    }
-    match stand_of(alloc, book, config, change)? {
-        Stand::Queued(queued) => {
-            let edits = leaving(alloc, book, config, &queued, Verdict::Withdrawn)?;
+    match queue_place(alloc, book, config, change)? {
+        QueuePlace::Submitting => Ok(Raw::Refused(Refusal::Submitting)),
+        QueuePlace::Item(item) => {
+            let left = leave_queue(alloc, book, config, item, Verdict::Withdrawn)?;
             Ok(Raw::Moved(Moved {
                 reply: PendingReply::Now(Reply::Removed),
-                edits,
-                touched: Some(touched(queued, Event::Left(Verdict::Withdrawn))),
+                edits: left.edits,
+                touched: left.touched,
             }))
         }
-        Stand::Ready => Ok(Raw::Moved(Moved {
-            reply: PendingReply::Now(Reply::Recorded),
-            edits: put_anew(Vec::new(alloc), known)?,
-            touched: None,
-        })),
-        Stand::Nowhere => Ok(Raw::Stands(Reply::Stale)),
+        QueuePlace::Outside => match book.approval(change)? {
+            Some(_) => Ok(Raw::Moved(Moved {
+                reply: PendingReply::Now(Reply::Recorded),
+                edits: put_anew(Vec::new(alloc), known)?,
+                touched: None,
+            })),
+            None => Ok(Raw::Stands(Reply::Stale)),
+        },
     }
 }
