@@ -72,14 +72,9 @@ pub fn admitting<B: Book>(
         let Some(serial) = Serial::new(order + 1) else {
             return Ok(None);
         };
-        enter(book, config, &mut edits, &entrant, serial)?;
-        add_needing(
-            alloc,
-            book,
-            edits.as_slice(),
-            entrant.ready.change,
-            &mut waiting,
-        )?;
+        let ready = entrant.ready;
+        enter(book, config, &mut edits, entrant, serial)?;
+        add_needing(alloc, book, edits.as_slice(), ready.change, &mut waiting)?;
     }
     Ok(None)
 }

@@ -18,19 +18,20 @@ use crate::items::{item_in, last_item};
 use crate::known_changes::{known, needs_with};
 use crate::room::has_room;
 use gate_book_trait::{Book, BookFault};
-use gate_types::config::Config;
+use gate_types::config::{Config, Project};
 use gate_types::edits::{Counter, Edit};
 use gate_types::names::{Name, NoMemory};
 use gate_types::numbers::Serial;
 use gate_types::records::{Change, Item, Need, Plan, Ready};
 use std::alloc::Global;
 
-/// A ready change that may enter its queue, and what was found out on the way: what is known of the change, and
-/// whether one of its needs is a failing item.
+/// A ready change that may enter its queue, and what was found out on the way: what is known of the change, its
+/// project, and whether one of its needs is a failing item.
 #[derive(Drop)]
-pub(crate) struct Entrant {
+pub(crate) struct Entrant<'c> {
     pub ready: Ready,
     pub change: Change,
+    pub project: &'c Project,
     pub failing: bool,
 }
 
@@ -112,13 +113,13 @@ fn all_met_with_room<B: Book>(
 }
 
 /// A ready change with what it enters by; none where it may not enter its queue.
-pub(crate) fn if_may_enter<B: Book>(
+pub(crate) fn if_may_enter<'c, B: Book>(
     alloc: Global,
     book: &mut B,
-    config: &Config,
+    config: &'c Config,
     edits: &[Edit],
     ready: Ready,
-) -> Result<Option<Entrant>, BookFault>
+) -> Result<Option<Entrant<'c>>, BookFault>
     ensures found { OfLedUnder B.IsTrusted B.Holds book.old book.new config.now edits.now (λ v.
         IfOk result (TellsEntrant config.now v ready)) }
     ensures kept { IsKept B.IsTrusted B.Holds B.LeavesOneOf book.old book.new }
@@ -138,6 +139,7 @@ pub(crate) fn if_may_enter<B: Book>(
     Ok(Some(Entrant {
         ready,
         change,
+        project,
         failing: !fine,
     }))
 }
@@ -228,31 +230,32 @@ pub(crate) fn enter<B: Book>(
     book: &mut B,
     config: &Config,
     edits: &mut Vec<Edit>,
-    entrant: &Entrant,
+    entrant: Entrant<'_>,
     serial: Serial,
 ) -> Result<(), BookFault>
     ensures led { OfHeldUnder B.IsTrusted B.Holds book.old book.new config.now (λ x. (v : State) →
-        IsLed config.now x edits.old.items v → find (may_enter config.now v) v.ready ≡ Some entrant.now.ready →
-        IsEntrant config.now v entrant.now → serial ≡ v.counters.order + 1 →
-        OnOk result (IsLed config.now x edits.new.items (entered config.now v entrant.now.ready))) }
+        IsLed config.now x edits.old.items v → find (may_enter config.now v) v.ready ≡ Some entrant.entry.ready →
+        IsEntrant config.now v entrant.entry → serial ≡ v.counters.order + 1 →
+        OnOk result (IsLed config.now x edits.new.items (entered config.now v entrant.entry.ready))) }
     ensures kept { IsKept B.IsTrusted B.Holds B.LeavesOneOf book.old book.new }
     ensures fault { IfErr result (MayAnswer B.MayFault) }
 {
     config.show_sound();
-    let change = &entrant.change;
-    let Some(project) = config.project(change.project.as_str()) else {
-        return Ok(());
-    };
+    let Entrant {
+        change,
+        project,
+        failing,
+        ..
+    } = entrant;
     let row = entering_row(
         book,
         edits.as_slice(),
         &project.queue,
-        change,
-        entrant.failing,
+        &change,
+        failing,
         serial,
     )?;
     let queue = project.queue.copy()?;
-    let change = change.copy()?;
     let plan = Plan::of_project(project, serial)?;
     push_entering(edits, queue, change, row, plan)?;
     Ok(())

@@ -4,7 +4,7 @@ ghost use Rattle.gate_types.specs.Names.{same_name};
 ghost use Rattle.gate_types.specs.State.{known_change, known_or_closed, need_of};
 ghost use Rattle.gate_book_trait.specs.Faults.{MayAnswer};
 ghost use Rattle.gate_book_trait.specs.Kept.{IsKept};
-ghost use Rattle.gate_admission.specs.Led.{OfLed};
+ghost use Rattle.gate_admission.specs.Led.{OfLed, OfLedUnder};
 ghost use Rattle.gate_admission.specs.Seen.{last_put};
 
 use gate_book_trait::{Book, BookFault};
@@ -30,7 +30,7 @@ fn last_put(edits: &[Edit], number: ChangeNo) -> Option<&Change>
 }
 
 /// What is known of a change after the edits.
-pub fn known<B: Book>(
+pub(crate) fn known<B: Book>(
     book: &mut B,
     edits: &[Edit],
     number: ChangeNo,
@@ -47,13 +47,36 @@ pub fn known<B: Book>(
 }
 
 /// The project of a change; none where the change isn't known.
-pub fn project_of<'c>(config: &'c Config, change: &Option<Change>) -> Option<&'c Project>
+fn project_of<'c>(config: &'c Config, change: &Option<Change>) -> Option<&'c Project>
     ensures { option_copied result ≡
         find (λ p. same_name p.name (known_or_closed change.now).project) config.now.projects }
 {
     match change {
         Some(change) => config.project(change.project.as_str()),
         None => config.project(""),
+    }
+}
+
+/// The project of a change after the edits; none where the change isn't known. The change is looked at where it stands,
+/// in the edits or the book.
+pub fn project_after<'c, B: Book>(
+    book: &mut B,
+    config: &'c Config,
+    edits: &[Edit],
+    number: ChangeNo,
+) -> Result<Option<&'c Project>, BookFault>
+    ensures found { OfLedUnder B.IsTrusted B.Holds book.old book.new config.now edits.now (λ v.
+        IfOk result (λ found. option_copied found ≡
+        find (λ p. same_name p.name (known_or_closed (known_change v number)).project) config.now.projects)) }
+    ensures kept { IsKept B.IsTrusted B.Holds B.LeavesOneOf book.old book.new }
+    ensures fault { IfErr result (MayAnswer B.MayFault) }
+{
+    match last_put(edits, number) {
+        Some(change) => Ok(config.project(change.project.as_str())),
+        None => {
+            let known = book.change(number)?;
+            Ok(project_of(config, &known))
+        }
     }
 }
 

@@ -19,4 +19,4 @@ mod room;
 
 pub use admit::admitting;
 pub use items::item_in;
-pub use known_changes::{known, project_of};
+pub use known_changes::project_after;

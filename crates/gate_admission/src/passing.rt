@@ -34,13 +34,13 @@ fn next(waiting: &mut BTreeMap<u64, ChangeNo>) -> Option<Ready>
 
 /// The first ready change that may enter its queue, where each that may is among these. It is taken out of them, as are
 /// those before it, who may not: each is asked about once.
-pub(crate) fn first_to_enter<B: Book>(
+pub(crate) fn first_to_enter<'c, B: Book>(
     alloc: Global,
     book: &mut B,
-    config: &Config,
+    config: &'c Config,
     edits: &[Edit],
     waiting: &mut BTreeMap<u64, ChangeNo>,
-) -> Result<Option<Entrant>, BookFault>
+) -> Result<Option<Entrant<'c>>, BookFault>
     ensures found { OfLedUnder B.IsTrusted B.Holds book.old book.new config.now edits.now (λ v.
         AreCandidates config.now v waiting.old →
         IfOk result (λ found. MatchOption found (find (may_enter config.now v) v.ready ≡ None)

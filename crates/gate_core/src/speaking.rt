@@ -9,7 +9,7 @@ ghost use Rattle.gate_book_trait.specs.Kept.{OfHeldUnder, IsKept};
 ghost use Rattle.gate_reads.specs.Moves.{in_state};
 ghost use Rattle.gate_reads.specs.Raw.{reply_by};
 
-use gate_admission::{item_in, known, project_of};
+use gate_admission::{item_in, project_after};
 use gate_book_trait::{Book, BookFault};
 use gate_reads::PendingReply;
 use gate_types::config::Config;
@@ -31,8 +31,7 @@ fn place_of<B: Book>(
     ensures fault { IfErr result (MayAnswer B.MayFault) }
 {
     config.show_sound();
-    let known = known(book, edits, change)?;
-    let Some(project) = project_of(config, &known) else {
+    let Some(project) = project_after(book, config, edits, change)? else {
         return Ok(Reply::Waiting);
     };
     match item_in(book, edits, &project.queue, change)? {

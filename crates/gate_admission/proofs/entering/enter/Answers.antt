@@ -1,8 +1,6 @@
-use Rattle.std.proofs.Common.{◌≡◌, ◌∙◌, ◌++◌, sym, ap, subst, List, [], ℕ, true, not, true≢false, rules, Some}
-use Rattle.std.specs.Prelude.{find, option_copied}
+use Rattle.std.proofs.Common.{◌≡◌, ◌∙◌, ◌++◌, sym, ap, subst, [], true, not, rules}
 use Rattle.std.specs.List.{list_all}
 use Rattle.std.specs.Option.{option_map_or}
-use Rattle.gate_types.specs.Names.{same_name}
 use Rattle.gate_types.specs.Settings.{are_sound}
 use Rattle.gate_types.specs.State.{known_change}
 use Rattle.gate_types.specs.Rows.{item_rows}
@@ -11,36 +9,24 @@ use Rattle.gate_types.specs.Admit.{entered}
 use Rattle.gate_book_trait.specs.Reads.{items_in}
 use Rattle.gate_admission.specs.Led.{IsLed}
 use Rattle.gate_admission.specs.Enters.{is_met_by_rows, entering_row, entering_edits}
-use Rattle.gate_admission.proofs.Admitted.{are_named, no_project, in_project, project_is, place_there, queue_is}
+use Rattle.gate_admission.proofs.Admitted.{are_named, in_project, place_there, queue_is}
 use Rattle.gate_admission.proofs.Admitted.{plan_is}
 use Rattle.gate_admission.proofs.EnteringEdits.{entering_leads}
 use Rattle.gate_admission.proofs.entering.enter.Goals as goal
 use Rattle.gate_laws.proofs.RecordedChange.{known_number}
 
-pub returns-in_default-clause-led : goal.returns-in_default-clause-led
-returns-in_default-clause-led g c = λ trusted x holds lawful v led first is serial.
-    let s = c.args.config.now in
-    let e = c.args.entrant.now in
-    let sound : are_sound s ≡ true = search rules in
-    let named = are_named s x v sound lawful led.sound in
-    absurd (true≢false (sym is.may ∙ no_project s v e.ready named
-    (ap (λ (m : List ℕ). find (λ p. same_name p.name m) s.projects)
-    (sym (project_is v e.ready.change (Some e.change) (sym is.known)) ∙ sym c.as_str.ensures.value)
-    ∙ sym c.project.ensures ∙ ap option_copied c.in_default.is)))
-
 pub returns-clause-led : goal.returns-clause-led
 returns-clause-led g c = λ trusted x holds lawful v led first is serial.
     let s = c.args.config.now in
-    let e = c.args.entrant.now in
+    let e = c.args.entrant in
     let n = e.ready.change in
     let k = e.change in
-    let p = c.in-Some.project.now in
+    let p = e.project.now in
     let sound : are_sound s ≡ true = search rules in
     let so_far = subst (λ es. IsLed s x es v) (sym c.as_slice.ensures.value) led in
     let named = are_named s x v sound lawful led.sound in
     let number : k.number ≡ n = known_number v n k is.known in
-    let project = ap (λ (m : List ℕ). find (λ p. same_name p.name m) s.projects)
-    (sym (project_is v n (Some k) (sym is.known)) ∙ sym c.as_str.ensures.value) ∙ sym c.in-Some.ensures in
+    let project = is.project in
     let place = sym (in_project s v e.ready p named project) ∙ is.may in
     let queue = place_there v p.queue (needs_of v n) place in
     let name = queue_is s v n p project in
@@ -55,7 +41,7 @@ returns-clause-led g c = λ trusted x holds lawful v led first is serial.
     subst (λ es. IsLed s x es (entered s v e.ready))
     (sym (c.in_ok-push_entering.ensures
     ∙ (λ i. c.args.edits.now.items ++
-    entering_edits (c.in_ok-queue.ensures i) (c.in_ok-change.ensures i) c.in_ok-row.row c.in_ok-plan.plan)))
+    entering_edits (c.in_ok-queue.ensures i) k c.in_ok-row.row c.in_ok-plan.plan)))
     (entering_leads s x c.args.edits.now.items v e.ready k p.queue queue.queue c.in_ok-row.row c.in_ok-plan.plan
     sound led first is.known name queue.named row_is
     (plan_is s v n p project c.args.serial serial c.in_ok-plan.plan c.in_ok-plan.ensures))

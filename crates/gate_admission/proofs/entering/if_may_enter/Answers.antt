@@ -80,6 +80,7 @@ returns-clause-found g c = λ trusted x holds lawful v led.
       record {
         may = in_project s v c.args.ready p named project ∙ ap (has_place v p.queue) (sym needs) ∙ place.0;
         known = sym known;
+        project = project;
         failing = ap not (place.1 ∙ ap (list_all (is_met_by_rows (items_in s v p.queue))) needs
             ∙ ap (λ name. list_all (is_met_by_rows (items_in s v name)) (needs_of v n)) (queue_is s v n p project));
       },
