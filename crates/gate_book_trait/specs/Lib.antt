@@ -4,3 +4,4 @@ pub mod Faults
 pub mod Text
 pub mod Writes
 pub mod RowReads
+pub mod Messages
