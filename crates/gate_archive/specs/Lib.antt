@@ -6,3 +6,4 @@ pub mod HistoryFrom
 pub mod Feed
 pub mod Writes
 pub mod Laws
+pub mod Messages
