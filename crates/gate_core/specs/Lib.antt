@@ -14,3 +14,4 @@ pub mod LineAnswer
 pub mod Line
 pub mod Runs
 pub mod ReadBack
+pub mod Messages

@@ -1,4 +1,5 @@
 //! What ends a replay before its end.
+use std::fmt;
 
 /// Why a replay ended early.
 #[derive(Clone, Copy, Debug, PartialEq, Eq)]
@@ -10,3 +11,20 @@ pub enum ReplayFault {
     /// Memory was refused before anything was read.
     NoMemory,
 }
+
+impl fmt::Display for ReplayFault {
+    ghost use Rattle.std.specs.Prelude.{Some};
+    ghost use Rattle.gate_core.specs.Messages.{replay_fault_message};
+
+    ghost output = { λ f. Some (replay_fault_message f) };
+
+    fn fmt<W: fmt::Write>(&self, f: &mut fmt::Formatter<W>) -> fmt::Result {
+        match self {
+            ReplayFault::Read => f.write_str("the reader failed"),
+            ReplayFault::Write => f.write_str("the writer failed"),
+            ReplayFault::NoMemory => f.write_str("memory was refused before anything was read"),
+        }
+    }
+}
+
+impl std::error::Error for ReplayFault {}
