@@ -14,3 +14,4 @@ pub mod Got
 pub mod Parts
 pub mod Laws
 pub mod Connections
+pub mod Messages

@@ -1,6 +1,8 @@
 //! What ends a request before its answer is written.
 ghost use Rattle.std.specs.Prelude.{◌≡◌};
 
+use std::fmt;
+
 /// Why a request ended early.
 #[derive(Clone, Copy, Debug, PartialEq, Eq)]
 pub enum RequestFault {
@@ -29,3 +31,16 @@ impl RequestFault {
         }
     }
 }
+
+impl fmt::Display for RequestFault {
+    ghost use Rattle.std.specs.Prelude.{Some};
+    ghost use Rattle.gate_http.specs.RequestFaults.{request_fault_text};
+
+    ghost output = { λ f. Some (request_fault_text f) };
+
+    fn fmt<W: fmt::Write>(&self, f: &mut fmt::Formatter<W>) -> fmt::Result {
+        f.write_str(self.text())
+    }
+}
+
+impl std::error::Error for RequestFault {}

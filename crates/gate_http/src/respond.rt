@@ -2,7 +2,7 @@
 ghost use Rattle.std.specs.Prelude.{◌≡◌, ◌≤◌, ◌++◌, List, ℕ, Option, None, ⊤, false, length, OnOk, IsErrOf};
 ghost use Rattle.gate_types.specs.Once.{answer_text};
 ghost use Rattle.gate_types.specs.Tap.{has_failed, Took, TookFront};
-ghost use Rattle.gate_http.specs.declared.respond.Told.{Told};
+ghost use Rattle.gate_http.specs.declared.respond.AnswerIfAny.{AnswerIfAny};
 ghost use Rattle.gate_http.specs.Asked.{Asked, delivery, page, build, change, item, answer_status, told_status};
 ghost use Rattle.gate_http.specs.Asked.{told_text};
 ghost use Rattle.gate_http.specs.Asked.{Streamed, streamed_by};
@@ -14,6 +14,7 @@ use gate_types::deliveries::Answer;
 use gate_types::tap::{Failed, Tap};
 use gate_wire::Door;
 use std::alloc::Global;
+use std::fmt;
 use std::io::Write;
 
 /// A page to be read.
@@ -29,7 +30,7 @@ pub enum Page {
 
 /// What is told to a question.
 #[derive(Drop)]
-pub enum Told {
+pub enum AnswerIfAny {
     /// An answer of the gate.
     Answer(Answer),
     /// No item has the serial.
@@ -62,6 +63,28 @@ pub enum StreamFault {
     Write,
 }
 
+impl fmt::Display for StreamFault {
+    ghost use Rattle.std.specs.Prelude.{Some};
+    ghost use Rattle.gate_http.specs.Messages.{stream_fault_message};
+
+    ghost output = { λ f. Some (stream_fault_message f) };
+
+    fn fmt<W: fmt::Write>(&self, f: &mut fmt::Formatter<W>) -> fmt::Result {
+        match self {
+            StreamFault::Missing => f.write_str("there is no such queue, or no such delivery"),
+            StreamFault::Unavailable => {
+                f.write_str("the store failed or memory was refused, and nothing was written")
+            }
+            StreamFault::Broken => {
+                f.write_str("the store failed or memory was refused, and a beginning was written")
+            }
+            StreamFault::Write => f.write_str("the writer failed, and a beginning was written"),
+        }
+    }
+}
+
+impl std::error::Error for StreamFault {}
+
 impl From<Failed> for StreamFault {
     ghost use Rattle.std.specs.Prelude.{◌≡◌};
     ghost use Rattle.gate_http.specs.declared.respond.StreamFault.TheVariants as fault;
@@ -93,29 +116,29 @@ fn answer_text(answer: &Answer) -> &str
 }
 
 /// The status of what is told.
-pub(crate) fn status_of(told: &Told) -> u16
+pub(crate) fn status_of(told: &AnswerIfAny) -> u16
     ensures { result ≡ told_status told.now }
 {
     match told {
-        Told::Answer(answer) => answer_status(answer),
-        Told::NoItem => HttpFault::NoItem.status(),
+        AnswerIfAny::Answer(answer) => answer_status(answer),
+        AnswerIfAny::NoItem => HttpFault::NoItem.status(),
     }
 }
 
 /// The text of what is told.
-pub(crate) fn text_of(told: &Told) -> &str
+pub(crate) fn text_of(told: &AnswerIfAny) -> &str
     ensures { result.now ≡ told_text told.now }
 {
     match told {
-        Told::Answer(answer) => answer_text(answer),
-        Told::NoItem => HttpFault::NoItem.text(),
+        AnswerIfAny::Answer(answer) => answer_text(answer),
+        AnswerIfAny::NoItem => HttpFault::NoItem.text(),
     }
 }
 
 /// What answers requests, one after another.
 pub trait Respond {
     // what is told to what is asked in a state, and the state after it
-    ghost responds: { Self → Asked → Told → Self → Type 0 };
+    ghost responds: { Self → Asked → AnswerIfAny → Self → Type 0 };
 
     // what is so of the lines that are asked for in a state, if there are any, and the state after they were asked for
     ghost recalls: { Self → Streamed → (Option (List ℕ) → Type 0) → Self → Type 0 };
@@ -123,22 +146,22 @@ pub trait Respond {
     /// The answer to a delivery's bytes, by the door that they came in by.
     fn hear(&mut self, alloc: Global, door: Door, body: &[u8]) -> Answer
         requires { length body.now ≤ most_bytes }
-        ensures { responds self.old (delivery door body.now) (Told.Answer result) self.new };
+        ensures { responds self.old (delivery door body.now) (AnswerIfAny.Answer result) self.new };
 
     /// A page.
     fn show(&mut self, alloc: Global, wanted: Page) -> Answer
-        ensures { responds self.old (page wanted) (Told.Answer result) self.new };
+        ensures { responds self.old (page wanted) (AnswerIfAny.Answer result) self.new };
 
     /// A build, by what stands for its number in the path.
     fn show_build(&mut self, alloc: Global, number: &[u8]) -> Answer
-        ensures { responds self.old (build number.now) (Told.Answer result) self.new };
+        ensures { responds self.old (build number.now) (AnswerIfAny.Answer result) self.new };
 
     /// A change, by what stands for its number in the path.
     fn show_change(&mut self, alloc: Global, number: &[u8]) -> Answer
-        ensures { responds self.old (change number.now) (Told.Answer result) self.new };
+        ensures { responds self.old (change number.now) (AnswerIfAny.Answer result) self.new };
 
     /// An item, there or gone, by what stands for its serial in the path.
-    fn show_item(&mut self, alloc: Global, number: &[u8]) -> Told
+    fn show_item(&mut self, alloc: Global, number: &[u8]) -> AnswerIfAny
         ensures { responds self.old (item number.now) result self.new };
 
     /// Writes the front and then the lines.
