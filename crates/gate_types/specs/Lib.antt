@@ -43,3 +43,4 @@ pub mod BuildText
 pub mod History
 pub mod Words
 pub mod Tap
+pub mod OpenFaults

@@ -3,6 +3,7 @@ ghost use Rattle.std.specs.Prelude.{◌≡◌};
 
 use crate::deliveries::Refusal;
 use crate::names::NoMemory;
+use std::fmt;
 
 impl Refusal {
     ghost use Rattle.gate_types.specs.Refusals.{refusal_row, refusal_text};
@@ -71,6 +72,19 @@ impl Refusal {
         }
     }
 }
+
+impl fmt::Display for Refusal {
+    ghost use Rattle.std.specs.Prelude.{Some};
+    ghost use Rattle.gate_types.specs.Refusals.{refusal_row};
+
+    ghost output = { λ r. Some (refusal_row r).word };
+
+    fn fmt<W: fmt::Write>(&self, f: &mut fmt::Formatter<W>) -> fmt::Result {
+        f.write_str(self.word())
+    }
+}
+
+impl std::error::Error for Refusal {}
 
 impl From<NoMemory> for Refusal {
     ghost use Rattle.gate_types.specs.declared.deliveries.Refusal.TheVariants.{Unavailable};

@@ -2,6 +2,7 @@
 ghost use Rattle.std.specs.Prelude.{◌≡◌, ◌≤◌, ◌+◌, ◌++◌, ◌∷◌, [], true, false, length, OnOk, OnErr, IfOk};
 ghost use Rattle.gate_types.specs.Tap.{inside, has_failed, turns, ReadsOnce, Took, TookFront};
 
+use std::fmt;
 use std::io::{Read, Write};
 
 /// A reader or writer, and whether it answered an error, or took 0 bytes of a write.
@@ -13,8 +14,20 @@ pub struct Tap<T> {
 }
 
 /// The reader or writer failed, as its tap keeps.
-#[derive(Clone, Copy)]
+#[derive(Clone, Copy, Debug)]
 pub struct Failed;
+
+impl fmt::Display for Failed {
+    ghost use Rattle.std.specs.Prelude.{Some, codes};
+
+    ghost output = { λ _. Some (codes "the reader or writer failed") };
+
+    fn fmt<W: fmt::Write>(&self, f: &mut fmt::Formatter<W>) -> fmt::Result {
+        f.write_str("the reader or writer failed")
+    }
+}
+
+impl std::error::Error for Failed {}
 
 impl<T> Tap<T> {
     pub fn new(inner: T) -> Tap<T>
