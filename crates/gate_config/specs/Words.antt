@@ -1,5 +1,5 @@
 -- The number and the word of each fault.
-use Rattle.std.specs.Prelude.{ℕ, List, codes}
+use Rattle.std.specs.Prelude.{ℕ, List, ◌++◌, codes}
 use Rattle.gate_config.specs.declared.fault.ConfigFault.{ConfigFault}
 use Rattle.gate_config.specs.declared.fault.ConfigFault.TheVariants as fault
 
@@ -30,3 +30,21 @@ word_of fault.BadWindow = codes "bad-window"
 word_of fault.NoVotingJob = codes "no-voting-job"
 word_of fault.Limit = codes "limit"
 word_of fault.NoMemory = codes "no-memory"
+
+-- the number of a fault as it is printed
+abbrev pub number_text : ConfigFault → List ℕ
+number_text fault.NotToml = codes "C1"
+number_text fault.MissingMember = codes "C2"
+number_text fault.WrongKind = codes "C3"
+number_text fault.UnknownMember = codes "C4"
+number_text fault.BadName = codes "C5"
+number_text fault.DoubleName = codes "C6"
+number_text fault.UnknownQueue = codes "C7"
+number_text fault.BadWindow = codes "C8"
+number_text fault.NoVotingJob = codes "C9"
+number_text fault.Limit = codes "C10"
+number_text fault.NoMemory = codes "C11"
+
+-- a fault's number, a space and its word
+abbrev pub config_fault_text : ConfigFault → List ℕ
+config_fault_text f = number_text f ++ codes " " ++ word_of f

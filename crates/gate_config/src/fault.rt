@@ -1,8 +1,9 @@
 //! Why a settings file is refused.
 ghost use Rattle.std.specs.Prelude.{◌≡◌};
-ghost use Rattle.gate_config.specs.Words.{number_of, word_of};
+ghost use Rattle.gate_config.specs.Words.{number_of, word_of, config_fault_text};
 
 use std::alloc::AllocError;
+use std::fmt;
 
 /// A fault of a settings file. If the file has several, the one with the least number is answered.
 #[derive(Clone, Copy, Debug, PartialEq, Eq)]
@@ -69,7 +70,38 @@ impl ConfigFault {
             ConfigFault::NoMemory => "no-memory",
         }
     }
+
+    /// The fault's number, a space and its word, as it is printed.
+    pub fn text(self) -> &'static str
+        ensures { result.now ≡ config_fault_text self }
+    {
+        match self {
+            ConfigFault::NotToml => "C1 not-toml",
+            ConfigFault::MissingMember => "C2 missing-member",
+            ConfigFault::WrongKind => "C3 wrong-kind",
+            ConfigFault::UnknownMember => "C4 unknown-member",
+            ConfigFault::BadName => "C5 bad-name",
+            ConfigFault::DoubleName => "C6 double-name",
+            ConfigFault::UnknownQueue => "C7 unknown-queue",
+            ConfigFault::BadWindow => "C8 bad-window",
+            ConfigFault::NoVotingJob => "C9 no-voting-job",
+            ConfigFault::Limit => "C10 limit",
+            ConfigFault::NoMemory => "C11 no-memory",
+        }
+    }
 }
+
+impl fmt::Display for ConfigFault {
+    ghost use Rattle.std.specs.Prelude.{Some};
+
+    ghost output = { λ f. Some (config_fault_text f) };
+
+    fn fmt<W: fmt::Write>(&self, f: &mut fmt::Formatter<W>) -> fmt::Result {
+        f.write_str(self.text())
+    }
+}
+
+impl std::error::Error for ConfigFault {}
 
 impl From<AllocError> for ConfigFault {
     ghost use Rattle.gate_config.specs.declared.fault.ConfigFault.TheVariants.{NoMemory};
