@@ -1,8 +1,6 @@
 -- What is told of a fault.
-use Rattle.std.specs.Prelude.{ℕ, List, ◌++◌, codes}
-use Rattle.gate_config.specs.Words.{word_of}
-use Rattle.gate_config.specs.declared.fault.ConfigFault.{ConfigFault}
-use Rattle.gate_config.specs.declared.fault.ConfigFault.TheVariants as config
+use Rattle.std.specs.Prelude.{ℕ, List, codes}
+use Rattle.gate_config.specs.Words.{config_fault_text}
 use Rattle.gate_archive.specs.declared.fault.FeedFault.{FeedFault}
 use Rattle.gate_archive.specs.declared.fault.FeedFault.TheVariants as feed
 use Rattle.gate_book_trait.specs.declared.fault.HistoryFault.{HistoryFault}
@@ -13,40 +11,14 @@ use Rattle.gate_http.specs.declared.request_fault.RequestFault.{RequestFault}
 use Rattle.gate_http.specs.declared.request_fault.RequestFault.TheVariants as request
 use Rattle.gate_http.specs.RequestFaults.{request_fault_text}
 use Rattle.gate_http.specs.Connections.{fault_line}
-use Rattle.gate_types.specs.declared.open_fault.OpenFault.{OpenFault}
-use Rattle.gate_types.specs.declared.open_fault.OpenFault.TheVariants as file
+use Rattle.gate_types.specs.OpenFaults.{open_fault_text}
 use Rattle.gated_cli.specs.declared.run.fault.Fault.{Fault}
 use Rattle.gated_cli.specs.declared.run.fault.Fault.TheVariants as fault
 
--- the number of a fault of the settings
-abbrev pub settings_number : ConfigFault → List ℕ
-settings_number config.NotToml = codes "C1"
-settings_number config.MissingMember = codes "C2"
-settings_number config.WrongKind = codes "C3"
-settings_number config.UnknownMember = codes "C4"
-settings_number config.BadName = codes "C5"
-settings_number config.DoubleName = codes "C6"
-settings_number config.UnknownQueue = codes "C7"
-settings_number config.BadWindow = codes "C8"
-settings_number config.NoVotingJob = codes "C9"
-settings_number config.Limit = codes "C10"
-settings_number config.NoMemory = codes "C11"
-
--- a fault of the settings, by its number and its own word
-abbrev pub settings_text : ConfigFault → List ℕ
-settings_text f = settings_number f ++ codes " " ++ word_of f
-
--- a fault of the gate's file
-abbrev pub file_text : OpenFault → List ℕ
-file_text file.WrongFile = codes "O1 wrong-file"
-file_text file.OtherSchema = codes "O2 other-schema"
-file_text file.OtherSettings = codes "O3 other-settings"
-file_text file.Unavailable = codes "O4 unavailable"
-
 -- a fault's number, a space and its word
 abbrev pub text_of : Fault → List ℕ
-text_of (fault.Settings f) = settings_text f
-text_of (fault.File f) = file_text f
+text_of (fault.Settings f) = config_fault_text f
+text_of (fault.File f) = open_fault_text f
 text_of fault.Unavailable = codes "E15 unavailable"
 text_of fault.Read = request_fault_text request.Read
 text_of fault.Write = request_fault_text request.Write

@@ -1,6 +1,6 @@
 //! The faults that end a command.
 ghost use Rattle.std.specs.Prelude.{◌≡◌};
-ghost use Rattle.gated_cli.specs.Faults.{text_of, file_text, settings_text};
+ghost use Rattle.gated_cli.specs.Faults.{text_of};
 
 use gate_archive::FeedFault;
 use gate_book_trait::HistoryFault;
@@ -10,6 +10,7 @@ use gate_http::RequestFault;
 use gate_types::open_fault::OpenFault;
 use gate_types::tap::Failed;
 use std::alloc::AllocError;
+use std::fmt;
 
 /// Why a command ended before it was done.
 #[derive(Clone, Copy, Debug, PartialEq, Eq)]
@@ -46,8 +47,8 @@ impl Fault {
         ensures { result.now ≡ text_of self }
     {
         match self {
-            Fault::Settings(fault) => settings_text(fault),
-            Fault::File(fault) => file_text(fault),
+            Fault::Settings(fault) => fault.text(),
+            Fault::File(fault) => fault.text(),
             Fault::Unavailable => "E15 unavailable",
             Fault::Read => RequestFault::Read.text(),
             Fault::Write => RequestFault::Write.text(),
@@ -62,34 +63,17 @@ impl Fault {
     }
 }
 
-fn settings_text(fault: ConfigFault) -> &'static str
-    ensures { result.now ≡ settings_text fault }
-{
-    match fault {
-        ConfigFault::NotToml => "C1 not-toml",
-        ConfigFault::MissingMember => "C2 missing-member",
-        ConfigFault::WrongKind => "C3 wrong-kind",
-        ConfigFault::UnknownMember => "C4 unknown-member",
-        ConfigFault::BadName => "C5 bad-name",
-        ConfigFault::DoubleName => "C6 double-name",
-        ConfigFault::UnknownQueue => "C7 unknown-queue",
-        ConfigFault::BadWindow => "C8 bad-window",
-        ConfigFault::NoVotingJob => "C9 no-voting-job",
-        ConfigFault::Limit => "C10 limit",
-        ConfigFault::NoMemory => "C11 no-memory",
+impl fmt::Display for Fault {
+    ghost use Rattle.std.specs.Prelude.{Some};
+
+    ghost output = { λ f. Some (text_of f) };
+
+    fn fmt<W: fmt::Write>(&self, f: &mut fmt::Formatter<W>) -> fmt::Result {
+        f.write_str(self.text())
     }
 }
 
-fn file_text(fault: OpenFault) -> &'static str
-    ensures { result.now ≡ file_text fault }
-{
-    match fault {
-        OpenFault::WrongFile => "O1 wrong-file",
-        OpenFault::OtherSchema => "O2 other-schema",
-        OpenFault::OtherSettings => "O3 other-settings",
-        OpenFault::Unavailable => "O4 unavailable",
-    }
-}
+impl std::error::Error for Fault {}
 
 impl From<ConfigFault> for Fault {
     ghost use Rattle.gated_cli.specs.declared.run.fault.Fault.TheVariants.{Settings};
