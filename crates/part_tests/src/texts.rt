@@ -1,6 +1,7 @@
 //! Settings files, deliveries, commit messages and replies, read and written as texts.
 mod answers;
 mod broken;
+mod errors;
 mod faults;
 mod footers;
 mod formats;
