@@ -2,6 +2,7 @@
 use crate::process::started;
 use crate::tests::claims::holds;
 use gate_config::ConfigFault;
+use gate_types::open_fault::OpenFault;
 use gate_types::tap::Tap;
 use gated_cli::{Fault, ended, unread};
 use std::io;
@@ -58,6 +59,13 @@ fn each_fault_has_its_line(rt: HostRuntime) {
         holds(&rt, status == 1, fault.text());
     }
     assert_eq!(rt; errors.into_inner().as_slice(), LINES.as_bytes());
+}
+
+#[test]
+fn a_fault_prints_its_text(rt: HostRuntime) {
+    let fault = Fault::File(OpenFault::OtherSchema);
+    let printed = fault.to_string(rt.alloc()).expect(&rt, "memory");
+    assert_eq!(rt; printed.as_str(), "O2 other-schema");
 }
 
 #[test]
