@@ -7,7 +7,7 @@ use Rattle.gate_types.specs.Gated.{Gated}
 use Rattle.gate_core.specs.declared.gate.Gate.{Gate}
 use Rattle.gate_core.specs.Holding.{GateHolds, book_of, settings_of}
 use Rattle.gate_core.specs.Left.{LeavesBy}
-use Rattle.gate_core.specs.Replies.{Cut, Replayed, Told, calls_of_lines}
+use Rattle.gate_core.specs.Replies.{Cut, Replayed, RepliedTo, calls_of_lines}
 
 -- a gate over a book holds a lawful content, and is this gate
 pub record IsOver {B : Type 0} (holds : B → Settings → Content → Type 0) (gate : Gate B) (g : Gated) : Type 0 where
@@ -31,7 +31,7 @@ pub record Goes {B : Type 0} (trusted : B → Type 0) (holds : B → Settings �
 -- a gate over a book answers a line by a text, and a crash leaves what the line's call leaves
 abbrev pub ToldOver : {B : Type 0} → (B → Settings → List Content → Type 0) → Gate B → Gate B → List ℕ → List ℕ →
     Gated → Gated → Type 0
-ToldOver leaves old new line text g after = (told : Told g line text after)
+ToldOver leaves old new line text g after = (told : RepliedTo g line text after)
     × LeavesBy leaves old new g (calls_of_lines (record { line = line; unavailable = told.unavailable } ∷ []))
 
 -- the same of lines

@@ -59,7 +59,7 @@ replies g [] = []
 replies g (m ∷ ms) = (reply_to g m ++ 10 ∷ []) ++ replies (gate_after_lines g (m ∷ [])) ms
 
 -- a line may be answered by this text, and the gate is this one then
-pub record Told (g : Gated) (line text : List ℕ) (after : Gated) : Type 0 where
+pub record RepliedTo (g : Gated) (line text : List ℕ) (after : Gated) : Type 0 where
   pub unavailable : Bool
   pub said : text ≡ reply_to g (record { line = line; unavailable = unavailable })
   pub stands : after ≡ gate_after_lines g (record { line = line; unavailable = unavailable } ∷ [])

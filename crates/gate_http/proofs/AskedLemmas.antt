@@ -8,17 +8,17 @@ use Rattle.gate_types.specs.declared.deliveries.Answer.TheVariants.{Said, Refuse
 use Rattle.gate_types.specs.declared.deliveries.Refusal.{Refusal}
 use Rattle.gate_types.specs.declared.deliveries.Refusal.TheVariants as refusal
 use Rattle.gate_types.specs.BuildText.{build_text}
-use Rattle.gate_http.specs.declared.respond.Told.{Told}
-use Rattle.gate_http.specs.declared.respond.Told.TheVariants as told
+use Rattle.gate_http.specs.declared.respond.AnswerIfAny.{AnswerIfAny}
+use Rattle.gate_http.specs.declared.respond.AnswerIfAny.TheVariants as told
 use Rattle.gate_http.specs.Asked.{is_failure}
 use Rattle.gate_http.specs.Answer.{answer_found, answer_known, told_item}
 
 -- what is told, by its mark
-abbrev pub marked : Bool → Told → Told
+abbrev pub marked : Bool → AnswerIfAny → AnswerIfAny
 marked u t = if u then told.Answer (Refused refusal.Unavailable) else t
 
 -- this is told, unless `unavailable` is
-abbrev pub Tells : Told → Told → Type 0
+abbrev pub Tells : AnswerIfAny → AnswerIfAny → Type 0
 Tells t said = t ≡ marked (is_failure t) said
 
 -- a text that was shown
@@ -68,7 +68,7 @@ item_told None = refl
 item_told (Some text) = refl
 
 -- an item that was looked for
-pub item_is : {T : Type 0} (bytes : T → List ℕ) (r : Result (Option T) Refusal) (t : Told) (text : Option (List ℕ))
+pub item_is : {T : Type 0} (bytes : T → List ℕ) (r : Result (Option T) Refusal) (t : AnswerIfAny) (text : Option (List ℕ))
     → MatchResult r (λ o. t ≡ told_item (option_map bytes o)) (λ e. t ≡ told.Answer (Refused e))
     → IfOk r (λ o. option_map bytes o ≡ text) → IfErr r (λ e. e ≡ refusal.Unavailable) → Tells t (told_item text)
 item_is bytes (Ok o) t text h k u =
@@ -77,6 +77,6 @@ item_is bytes (Err e) t text h k u =
     subst (λ b. Tells b (told_item text)) (sym (h ∙ ap (λ q. told.Answer (Refused q)) u)) refl
 
 -- by the number that its path says
-pub named_is : {X : Type 0} (find : ℕ → Option X) (say : Option X → Told) (t : Told) (number said : Option ℕ)
+pub named_is : {X : Type 0} (find : ℕ → Option X) (say : Option X → AnswerIfAny) (t : AnswerIfAny) (number said : Option ℕ)
     → number ≡ said → Tells t (say (option_and_then find number)) → Tells t (say (option_and_then find said))
 named_is find say t number said e h = subst (λ o. Tells t (say (option_and_then find o))) e h

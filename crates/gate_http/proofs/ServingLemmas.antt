@@ -20,8 +20,8 @@ use Rattle.gate_core.specs.Replies.{call_read}
 use Rattle.gate_core.specs.Held.{IsOver, Goes}
 use Rattle.gate_core.specs.Holding.{GateHolds, OfGate, OfBook, IsKeptGate, book_of, settings_of}
 use Rattle.gate_core.proofs.HoldingLemmas.{over_kept}
-use Rattle.gate_http.specs.declared.respond.Told.{Told}
-use Rattle.gate_http.specs.declared.respond.Told.TheVariants as told
+use Rattle.gate_http.specs.declared.respond.AnswerIfAny.{AnswerIfAny}
+use Rattle.gate_http.specs.declared.respond.AnswerIfAny.TheVariants as told
 use Rattle.gate_http.specs.declared.response.Form.{Form}
 use Rattle.gate_http.specs.declared.served.Served.{Served}
 use Rattle.gate_http.specs.declared.served.Served.TheVariants.{Answered as AnsweredBy}
@@ -44,7 +44,7 @@ by_mark c x id d true = refl
 by_mark c x id d false = refl
 
 -- what is told to what is read of a delivery, by its mark
-abbrev told_read : Bool → Gated → Result (Id × Delivery) Refusal → Told
+abbrev told_read : Bool → Gated → Result (Id × Delivery) Refusal → AnswerIfAny
 told_read u g r = if u then told.Answer (Refused refusal.Unavailable) else told.Answer (answer_read g r)
 
 -- an answer by its mark is told
@@ -196,11 +196,11 @@ module _ {B : Type 0} (trusted : B → Type 0) (holds : B → Settings → Conte
       refused_by old door body e (is_unavailable (Refused e)) more refl said
 
   -- this is told of the gate over a content
-  abbrev IsTold : Settings → Content → Asked → Told → Type 0
+  abbrev IsTold : Settings → Content → Asked → AnswerIfAny → Type 0
   IsTold c x asked t = t ≡ answer_to (is_failure t) (record { settings = c; content = x }) asked
 
   -- to what only reads
-  pub responds_kept : (old new : Gate B) (asked : Asked) (t : Told) → ((u : Bool) → calls_asked u asked ≡ [])
+  pub responds_kept : (old new : Gate B) (asked : Asked) (t : AnswerIfAny) → ((u : Bool) → calls_asked u asked ≡ [])
       → settings_of new ≡ settings_of old → IsKeptGate trusted holds leaves old new
       → OfGate trusted holds old new (λ x. IsTold (settings_of old) x asked t)
       → Responds trusted holds leaves old asked t new
@@ -226,7 +226,7 @@ module _ {B : Type 0} (trusted : B → Type 0) (holds : B → Settings → Conte
       }
 
   -- to what is told without the book
-  pub responds_unmoved : (old : Gate B) (asked : Asked) (t : Told) → ((u : Bool) → calls_asked u asked ≡ [])
+  pub responds_unmoved : (old : Gate B) (asked : Asked) (t : AnswerIfAny) → ((u : Bool) → calls_asked u asked ≡ [])
       → ((g : Gated) → t ≡ answer_to (is_failure t) g asked) → Responds trusted holds leaves old asked t old
   responds_unmoved old asked t none at =
       let u = is_failure t in
@@ -249,7 +249,7 @@ module _ {B : Type 0} (trusted : B → Type 0) (holds : B → Settings → Conte
   }
 
   -- the status of `unavailable` is no other answer's
-  by_status : (t : Told) → (told_status t == 503) ≡ is_failure t
+  by_status : (t : AnswerIfAny) → (told_status t == 503) ≡ is_failure t
   by_status told.NoItem = refl
   by_status (told.Answer (Said text)) = refl
   by_status (told.Answer (Refused refusal.BadJson)) = refl
@@ -269,14 +269,14 @@ module _ {B : Type 0} (trusted : B → Type 0) (holds : B → Settings → Conte
   by_status (told.Answer (Refused refusal.Unavailable)) = refl
 
   -- an answer that tells of it
-  told_by : (g after : Gated) (asked : Asked) (t : Told) (u : Bool) → u ≡ is_failure t
+  told_by : (g after : Gated) (asked : Asked) (t : AnswerIfAny) (u : Bool) → u ≡ is_failure t
       → (t ≡ answer_to (is_failure t) g asked) × (after ≡ gate_after g (calls_asked (is_failure t) asked))
       → (t ≡ answer_to u g asked) × (after ≡ gate_after g (calls_asked u asked))
   told_by g after asked t u e h =
       subst (λ v. (t ≡ answer_to v g asked) × (after ≡ gate_after g (calls_asked v asked))) (sym e) h
 
   -- what a question comes to
-  serves_question : (form : Form) (asked : Asked) (old new : Gate B) (served : Served) (t : Told)
+  serves_question : (form : Form) (asked : Asked) (old new : Gate B) (served : Served) (t : AnswerIfAny)
       → Responds trusted holds leaves old asked t new → served ≡ AnsweredBy (told_status t)
       → Serves trusted holds leaves form old new (question asked) served (told_in form (media_of asked) t)
   serves_question form asked old new served a r status =

@@ -5,7 +5,7 @@ use Rattle.gate_http.specs.declared.response.Extent.{Extent}
 use Rattle.gate_http.specs.declared.request_fault.RequestFault.{RequestFault}
 use Rattle.gate_http.specs.declared.request_fault.RequestFault.TheVariants as request
 use Rattle.gate_http.specs.declared.fault.HttpFault.{HttpFault}
-use Rattle.gate_http.specs.declared.respond.Told.{Told}
+use Rattle.gate_http.specs.declared.respond.AnswerIfAny.{AnswerIfAny}
 use Rattle.gate_http.specs.declared.response.Form.{Form}
 use Rattle.gate_http.specs.declared.served.Served.{Served}
 use Rattle.gate_http.specs.declared.served.Served.TheVariants.{Answered}
@@ -55,7 +55,7 @@ module _ {S : Type 0} (responds : Responding S) (recalls : Recalling S) (form : 
       (Takes (fault_in form f x)) r (λ served e takes. (e, takes, refl)) h e
 
   -- what is told
-  pub told_whole : (old new : S) (asked : Asked) (t : Told) (Takes : List ℕ → Type 0) (r : Result Served RequestFault)
+  pub told_whole : (old new : S) (asked : Asked) (t : AnswerIfAny) (Takes : List ℕ → Type 0) (r : Result Served RequestFault)
       → responds old asked t new
       → IfOk r (λ served. (served ≡ Answered (told_status t)) × Takes (told_in form (media_of asked) t))
       → IfOk r (Comes responds recalls form (question asked) old Takes new)
@@ -64,7 +64,7 @@ module _ {S : Type 0} (responds : Responding S) (recalls : Recalling S) (form : 
       (Takes (told_in form (media_of asked) t)) r (λ served e takes. (t, said, e, takes)) h
 
   -- its beginning
-  pub told_front : (old new : S) (asked : Asked) (t : Told) (Takes : List ℕ → Type 0) (r : Result Served RequestFault)
+  pub told_front : (old new : S) (asked : Asked) (t : AnswerIfAny) (Takes : List ℕ → Type 0) (r : Result Served RequestFault)
       → responds old asked t new → OnErr r (Takes (told_in form (media_of asked) t)) → IsErrOf r request.Write
       → (served : Served) × Comes responds recalls form (question asked) old Takes new served
   told_front old new asked t Takes r said h e =

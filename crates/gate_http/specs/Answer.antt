@@ -24,8 +24,8 @@ use Rattle.gate_archive.specs.HistoryFrom.{history_from}
 use Rattle.gate_archive.specs.Feed.{fed, feed_text, id_named}
 use Rattle.gate_core.specs.Replies.{call_read}
 use Rattle.gate_http.specs.declared.respond.Page.TheVariants as pages
-use Rattle.gate_http.specs.declared.respond.Told.{Told}
-use Rattle.gate_http.specs.declared.respond.Told.TheVariants as told
+use Rattle.gate_http.specs.declared.respond.AnswerIfAny.{AnswerIfAny}
+use Rattle.gate_http.specs.declared.respond.AnswerIfAny.TheVariants as told
 use Rattle.gate_http.specs.declared.response.Form.{Form}
 use Rattle.gate_http.specs.declared.served.Served.{Served}
 use Rattle.gate_http.specs.declared.served.Served.TheVariants.{Nothing, Answered}
@@ -73,12 +73,12 @@ answer_known None = Refused refusal.UnknownChange
 answer_known (Some text) = Said text
 
 -- what is told with the text of an item that was looked for
-abbrev pub told_item : Option (List ℕ) → Told
+abbrev pub told_item : Option (List ℕ) → AnswerIfAny
 told_item None = told.NoItem
 told_item (Some text) = told.Answer (Said text)
 
 -- the answer to what is asked
-abbrev pub answer_asked : Gated → Asked → Told
+abbrev pub answer_asked : Gated → Asked → AnswerIfAny
 answer_asked g (delivery door body) = told.Answer (answer_read g (says door body))
 answer_asked g (page pages.Status) = told.Answer (Said (status_text g.settings g.content.state))
 answer_asked g (page pages.Orders) = told.Answer (Said (order_list_text g.settings g.content.state))
@@ -89,7 +89,7 @@ answer_asked g (change text) = told.Answer (answer_known (option_and_then (chang
 answer_asked g (item text) = told_item (option_and_then (item_text g.settings g.content.state) (item_serial text))
 
 -- the same, or `unavailable`
-abbrev pub answer_to : Bool → Gated → Asked → Told
+abbrev pub answer_to : Bool → Gated → Asked → AnswerIfAny
 answer_to unavailable g asked =
     if unavailable then told.Answer (Refused refusal.Unavailable) else answer_asked g asked
 

@@ -13,8 +13,8 @@ use Rattle.gate_http.specs.declared.respond.Page.{Page}
 use Rattle.gate_http.specs.declared.respond.Page.TheVariants as pages
 use Rattle.gate_http.specs.declared.respond.Stream.{Stream}
 use Rattle.gate_http.specs.declared.respond.Stream.TheVariants as stream
-use Rattle.gate_http.specs.declared.respond.Told.{Told}
-use Rattle.gate_http.specs.declared.respond.Told.TheVariants as told
+use Rattle.gate_http.specs.declared.respond.AnswerIfAny.{AnswerIfAny}
+use Rattle.gate_http.specs.declared.respond.AnswerIfAny.TheVariants as told
 use Rattle.gate_http.specs.Faults.{fault_status, fault_text}
 
 -- a delivery's bytes by a door, a page, or the build, the change or the item that a text names
@@ -63,16 +63,16 @@ answer_status (answer.Said text) = 200
 answer_status (answer.Refused r) = (refusal_row r).status
 
 -- the status of what is told
-abbrev pub told_status : Told → ℕ
+abbrev pub told_status : AnswerIfAny → ℕ
 told_status (told.Answer a) = answer_status a
 told_status told.NoItem = fault_status fault.NoItem
 
 -- its text
-abbrev pub told_text : Told → List ℕ
+abbrev pub told_text : AnswerIfAny → List ℕ
 told_text (told.Answer a) = answer_text a
 told_text told.NoItem = fault_text fault.NoItem
 
 -- whether it is `unavailable`
-abbrev pub is_failure : Told → Bool
+abbrev pub is_failure : AnswerIfAny → Bool
 is_failure (told.Answer a) = is_unavailable a
 is_failure told.NoItem = false

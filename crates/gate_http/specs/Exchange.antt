@@ -7,7 +7,7 @@ use Rattle.gate_http.specs.declared.response.Extent.TheVariants as extent
 use Rattle.gate_http.specs.declared.fault.HttpFault.TheVariants as fault
 use Rattle.gate_http.specs.declared.respond.StreamFault.{StreamFault}
 use Rattle.gate_http.specs.declared.respond.StreamFault.TheVariants as stopped
-use Rattle.gate_http.specs.declared.respond.Told.{Told}
+use Rattle.gate_http.specs.declared.respond.AnswerIfAny.{AnswerIfAny}
 use Rattle.gate_http.specs.declared.response.Form.{Form}
 use Rattle.gate_http.specs.declared.response.Form.TheVariants as form
 use Rattle.gate_http.specs.declared.served.Served.{Served}
@@ -46,7 +46,7 @@ pub record Waits (from left : Option (List ℕ)) : Type 0 where
 
 -- what may be told to what is asked of a state, and the state after it
 abbrev pub Responding : Type 0 → Type 1
-Responding S = S → Asked → Told → S → Type 0
+Responding S = S → Asked → AnswerIfAny → S → Type 0
 
 -- what is so of the lines that are asked for in a state, if there are any, and the state after it
 abbrev pub Recalling : Type 0 → Type 1
@@ -90,7 +90,7 @@ Comes responds recalls f silence old Takes new served = (served ≡ Nothing) × 
 Comes responds recalls f (refusal refused e) old Takes new served =
     (served ≡ Answered (fault_status refused)) × Takes (fault_in f refused e) × (new ≡ old)
 Comes responds recalls f (question asked) old Takes new served =
-    (t : Told) × responds old asked t new
+    (t : AnswerIfAny) × responds old asked t new
     × (served ≡ Answered (told_status t)) × Takes (told_in f (media_of asked) t)
 Comes responds recalls f (stream wanted) old Takes new served = Recalled recalls f old wanted Takes new served
 

@@ -8,7 +8,7 @@ use Rattle.gate_http.specs.declared.fault.HttpFault.TheVariants as fault
 use Rattle.gate_wire.specs.declared.door.Door.TheVariants as door
 use Rattle.gate_http.specs.declared.respond.Page.TheVariants as pages
 use Rattle.gate_http.specs.declared.routes.Route.TheVariants as route
-use Rattle.gate_http.specs.declared.respond.Told.TheVariants as told
+use Rattle.gate_http.specs.declared.respond.AnswerIfAny.TheVariants as told
 use Rattle.gate_http.specs.declared.response.Form.TheVariants as form
 use Rattle.gate_http.specs.Asked.{page, delivery, whole_history, all_deliveries}
 use Rattle.gate_http.specs.Head.{Front, front_of, whole}

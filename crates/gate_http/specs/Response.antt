@@ -9,8 +9,8 @@ use Rattle.gate_http.specs.declared.response.Media.{Media}
 use Rattle.gate_http.specs.declared.response.Media.TheVariants as media
 use Rattle.gate_http.specs.declared.fault.HttpFault.{HttpFault}
 use Rattle.gate_http.specs.declared.fault.HttpFault.TheVariants as fault
-use Rattle.gate_http.specs.declared.respond.Told.{Told}
-use Rattle.gate_http.specs.declared.respond.Told.TheVariants as told
+use Rattle.gate_http.specs.declared.respond.AnswerIfAny.{AnswerIfAny}
+use Rattle.gate_http.specs.declared.respond.AnswerIfAny.TheVariants as told
 use Rattle.gate_http.specs.declared.response.Form.{Form}
 use Rattle.gate_http.specs.declared.response.Form.TheVariants as form
 use Rattle.gate_http.specs.Faults.{fault_status, fault_text}
@@ -83,12 +83,12 @@ abbrev pub fault_head : HttpFault → List ℕ
 fault_head f = head_text (fault_status f) json (length (fault_text f)) (allow_line f)
 
 -- the type of what is told; the status text is plain text, all else is JSON
-abbrev pub told_kind : Media → Told → List ℕ
+abbrev pub told_kind : Media → AnswerIfAny → List ℕ
 told_kind media.Json t = json
 told_kind media.Plain t = if told_status t == 200 then plain else json
 
 -- the head of the response with it
-abbrev pub told_head : Media → Told → List ℕ
+abbrev pub told_head : Media → AnswerIfAny → List ℕ
 told_head m t = head_text (told_status t) (told_kind m t) (length (told_text t)) []
 
 -- the head of a response that is written line by line, which has no length: its body ends where the connection is
@@ -112,7 +112,7 @@ abbrev pub fault_in : Form → HttpFault → Extent → List ℕ
 fault_in a f e = written_in a (fault_head f) (fault_content f e)
 
 -- the answer with what is told
-abbrev pub told_in : Form → Media → Told → List ℕ
+abbrev pub told_in : Form → Media → AnswerIfAny → List ℕ
 told_in a m t = written_in a (told_head m t) (told_text t)
 
 -- what stands before the lines

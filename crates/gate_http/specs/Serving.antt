@@ -6,7 +6,7 @@ use Rattle.gate_core.specs.Answered.{CallLeaves}
 use Rattle.gate_core.specs.declared.gate.Gate.{Gate}
 use Rattle.gate_core.specs.Held.{Goes}
 use Rattle.gate_core.specs.Holding.{OfGate, book_of, settings_of}
-use Rattle.gate_http.specs.declared.respond.Told.{Told}
+use Rattle.gate_http.specs.declared.respond.AnswerIfAny.{AnswerIfAny}
 use Rattle.gate_http.specs.declared.response.Form.{Form}
 use Rattle.gate_http.specs.declared.response.Form.TheVariants as form
 use Rattle.gate_http.specs.declared.served.Served.{Served}
@@ -28,7 +28,7 @@ GateLeaves leaves old new x ks = CrashLeaves (settings_of old) x ks (leaves (boo
 
 -- a gate was asked this and told this: the answer and the content of the plain gate, and what a crash leaves
 pub record Responds {B : Type 0} (trusted : B → Type 0) (holds : B → Settings → Content → Type 0)
-    (leaves : B → Settings → List Content → Type 0) (old : Gate B) (asked : Asked) (t : Told) (new : Gate B)
+    (leaves : B → Settings → List Content → Type 0) (old : Gate B) (asked : Asked) (t : AnswerIfAny) (new : Gate B)
     : Type 0 where
   pub answers : Goes trusted holds old new (λ g after.
       (t ≡ answer_to (is_failure t) g asked) × (after ≡ gate_after g (calls_asked (is_failure t) asked)))

@@ -10,7 +10,7 @@ ghost use Rattle.gate_http.specs.Parts.{asked_by, ReadsTo, BreaksOff};
 use crate::fault::HttpFault;
 use crate::request::{Question, Wanted};
 use crate::request_fault::RequestFault;
-use crate::respond::{Page, Respond, Stream, StreamFault, Told, status_of, text_of};
+use crate::respond::{AnswerIfAny, Page, Respond, Stream, StreamFault, status_of, text_of};
 use crate::response::{Extent, Form, Media, allow_of, front_of, write_answer};
 use crate::served::Served;
 use gate_types::deliveries::{Answer, Refusal};
@@ -29,7 +29,7 @@ fn content_of(fault: HttpFault, extent: Extent) -> &'static str
 }
 
 /// The type of what is told.
-fn kind_of(told: &Told, media: Media) -> &'static str
+fn kind_of(told: &AnswerIfAny, media: Media) -> &'static str
     ensures { result.now ≡ told_kind media told.now }
 {
     match media {
@@ -90,7 +90,7 @@ pub(crate) fn tell<W: Write>(
     writer: &mut Tap<W>,
     room: &mut Vec<u8>,
     form: Form,
-    told: &Told,
+    told: &AnswerIfAny,
     media: Media,
 ) -> Result<Served, RequestFault>
     requires writer { has_failed writer.old ≡ false }
@@ -113,13 +113,13 @@ pub(crate) fn tell<W: Write>(
 }
 
 /// What is told to a question.
-fn ask<G: Respond>(alloc: Global, gate: &mut G, question: Question<'_>) -> Told
+fn ask<G: Respond>(alloc: Global, gate: &mut G, question: Question<'_>) -> AnswerIfAny
     ensures { G.responds gate.old (asked_by question.entry) result gate.new }
 {
     match question {
-        Question::Page(wanted) => Told::Answer(gate.show(alloc, wanted)),
-        Question::Build(number) => Told::Answer(gate.show_build(alloc, number)),
-        Question::Change(number) => Told::Answer(gate.show_change(alloc, number)),
+        Question::Page(wanted) => AnswerIfAny::Answer(gate.show(alloc, wanted)),
+        Question::Build(number) => AnswerIfAny::Answer(gate.show_build(alloc, number)),
+        Question::Change(number) => AnswerIfAny::Answer(gate.show_change(alloc, number)),
         Question::Item(number) => gate.show_item(alloc, number),
     }
 }
@@ -161,7 +161,7 @@ fn tell_lines<G: Respond, W: Write>(
         Ok(()) => Ok(Served::Answered(200)),
         Err(StreamFault::Missing) => refuse(writer, room, form, missing_of(wanted), Extent::Whole),
         Err(StreamFault::Unavailable) => {
-            let said = Told::Answer(Answer::Refused(Refusal::Unavailable));
+            let said = AnswerIfAny::Answer(Answer::Refused(Refusal::Unavailable));
             tell(writer, room, form, &said, Media::Json)
         }
         Err(StreamFault::Broken) => Err(RequestFault::Store),

@@ -8,7 +8,7 @@ ghost use Rattle.gate_http.specs.Exchange.{Stops};
 ghost use Rattle.gate_http.specs.Parts.{lines_of_history, lines_of_feed, WritesLines};
 
 use crate::digits::number_up_to;
-use crate::respond::{Page, Respond, Stream, StreamFault, Told};
+use crate::respond::{AnswerIfAny, Page, Respond, Stream, StreamFault};
 use gate_archive::{Archive, FeedFault, id_of};
 use gate_book_trait::HistoryFault;
 use gate_core::Gate;
@@ -61,14 +61,14 @@ fn answer_with(shown: Result<String, Refusal>) -> Answer
 }
 
 /// What is told with the text of an item, or with the refusal in its place.
-fn told_with(shown: Result<Option<String>, Refusal>) -> Told
+fn told_with(shown: Result<Option<String>, Refusal>) -> AnswerIfAny
     ensures { MatchResult shown (λ text. result ≡ told_item (option_map string_bytes text))
-        (λ e. result ≡ Told.Answer (Answer.Refused e)) }
+        (λ e. result ≡ AnswerIfAny.Answer (Answer.Refused e)) }
 {
     match shown {
-        Ok(Some(text)) => Told::Answer(Answer::Said(Text::new(text))),
-        Ok(None) => Told::NoItem,
-        Err(refusal) => Told::Answer(Answer::Refused(refusal)),
+        Ok(Some(text)) => AnswerIfAny::Answer(Answer::Said(Text::new(text))),
+        Ok(None) => AnswerIfAny::NoItem,
+        Err(refusal) => AnswerIfAny::Answer(Answer::Refused(refusal)),
     }
 }
 
@@ -166,10 +166,10 @@ impl<B: Archive> Respond for Gate<B> {
         }
     }
 
-    fn show_item(&mut self, alloc: Global, number: &[u8]) -> Told {
+    fn show_item(&mut self, alloc: Global, number: &[u8]) -> AnswerIfAny {
         match serial_named(number) {
             Some(serial) => told_with(self.item(alloc, serial)),
-            None => Told::NoItem,
+            None => AnswerIfAny::NoItem,
         }
     }
 

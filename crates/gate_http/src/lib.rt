@@ -32,6 +32,6 @@ pub use connections::{NotListening, serve, write_fault};
 pub use engine::answer_request;
 pub use getting::{get, get_one};
 pub use request_fault::RequestFault;
-pub use respond::{Page, Respond, Stream, StreamFault, Told};
+pub use respond::{AnswerIfAny, Page, Respond, Stream, StreamFault};
 pub use served::Served;
 pub use serving::serve_one;

@@ -24,7 +24,7 @@ use Rattle.gate_book_trait.specs.Reads.{live_builds, plans_of_items, builds_of_i
 use Rattle.gate_reads.specs.NextBuild.{with_number}
 use Rattle.gate_reads.specs.Parts.{ahead_behind_one, AreBehind, IsTold, AreTold}
 use Rattle.gate_reads.specs.Places.{IsBehind}
-use Rattle.gate_reads.specs.declared.due.ToldItem.{ToldItem}
+use Rattle.gate_reads.specs.declared.due.BookItem.{BookItem}
 use Rattle.gate_reads.specs.declared.part.Part.{Part}
 use Rattle.gate_reads.proofs.ToldParts.{plan_told, own_told, behind_told}
 use Rattle.gate_reads.proofs.Trying.{first_some, first_none, longer_is}
@@ -111,7 +111,7 @@ row_at rows items k row e l r =
 -- what is told of the first that is left
 pub told_first : {c : Settings} {s : State} {name : List ℕ} {q : Queue} {ps : List Place} {ahead : List Entry}
     {row : ItemRow} {rows : List ItemRow} {builds : List Build} → Along c s name q ps ahead (row ∷ rows) builds →
-    (items : List ItemRow) (plans : List Plan) (told : ToldItem) → In row items → plans ≡ plans_of_items s items →
+    (items : List ItemRow) (plans : List Plan) (told : BookItem) → In row items → plans ≡ plans_of_items s items →
     told.row ≡ row → told.jobs.now ≡ (plan_in plans row.serial).jobs → told.fast ≡ (plan_in plans row.serial).fast →
     told.builds.now ≡ take_while (λ b. b.serial == row.serial) builds → IsTold s told
 told_first {s = s} {row = row} {rows = rows} {builds = builds} h items plans told m e r j f b =

@@ -29,7 +29,7 @@ use Rattle.gate_reads.specs.NextBuild.{with_number}
 use Rattle.gate_queue_rules.specs.Outcomes.{slot_among}
 use Rattle.gate_reads.specs.Parts.{IsTold}
 use Rattle.gate_reads.specs.Places.{IsBehind, are_met_among, build_on}
-use Rattle.gate_reads.specs.declared.due.ToldItem.{ToldItem}
+use Rattle.gate_reads.specs.declared.due.BookItem.{BookItem}
 use Rattle.gate_reads.proofs.OwnBuilds.{all_count, blocked_none, cut_none, cut_is, first_due}
 
 -- ---- a place of a queue
@@ -120,7 +120,7 @@ blocked_at {c} {s} {row = row} {q = q} {p = p} at known needs k n =
 -- ---- the first build that is due of an item
 
 -- none, where it is cut
-pub none_cut : {c : Settings} {s : State} {name : List ℕ} {ahead : List Entry} {told : ToldItem} {q : Queue} {p : Place} →
+pub none_cut : {c : Settings} {s : State} {name : List ℕ} {ahead : List Entry} {told : BookItem} {q : Queue} {p : Place} →
     IsBehind c s name ahead told.row q p → IsTold s told → told.fast && told.row.failing ≡ true →
     slice_get (builds_for s q p) 0 ≡ None
 none_cut {c} {s} {name} {told = told} {q = q} {p = p} at t e = by_blocked (is_blocked p) refl
@@ -133,7 +133,7 @@ none_cut {c} {s} {name} {told = told} {q = q} {p = p} at t e = by_blocked (is_bl
         ∙ ap (λ f. f && told.row.failing) (sym t.fast) ∙ e)
 
 -- that of its first waiting job, where it is neither cut nor blocked
-pub first_is : {c : Settings} {s : State} {name : List ℕ} {ahead : List Entry} {told : ToldItem} {q : Queue} {p : Place} →
+pub first_is : {c : Settings} {s : State} {name : List ℕ} {ahead : List Entry} {told : BookItem} {q : Queue} {p : Place} →
     IsLawful c s → IsBehind c s name ahead told.row q p → IsTold s told → told.fast && told.row.failing ≡ false →
     is_blocked p ≡ false → slice_get (builds_for s q p) 0 ≡ option_map (build_for (s.counters.build + 1) q p)
     (find (λ j. is_waiting_slot (slot_among told.builds.now j)) told.jobs.now)
@@ -146,7 +146,7 @@ first_is {c} {s} {name} {told = told} {q = q} {p = p} lawful at t e b =
     (sym (cut_at c s p told.row plan here at.row_is refl b) ∙ ap (λ f. f && told.row.failing) (sym t.fast) ∙ e)
 
 -- none, where no job waits
-pub none_waits : {c : Settings} {s : State} {name : List ℕ} {ahead : List Entry} {told : ToldItem} {q : Queue} {p : Place} →
+pub none_waits : {c : Settings} {s : State} {name : List ℕ} {ahead : List Entry} {told : BookItem} {q : Queue} {p : Place} →
     IsLawful c s → IsBehind c s name ahead told.row q p → IsTold s told → told.fast && told.row.failing ≡ false →
     find (λ j. is_waiting_slot (slot_among told.builds.now j)) told.jobs.now ≡ None →
     slice_get (builds_for s q p) 0 ≡ None

@@ -1,6 +1,6 @@
 -- What is told of an item that is found by key.
 use Rattle.std.proofs.Common.{◌≡◌, ℕ, true, false, Option, Some, None, refl, sym, ap, ◌∙◌, subst}
-use Rattle.std.specs.Prelude.{◌==◌, find, is_some, option_map, Result, Ok, Err, IfOk}
+use Rattle.std.specs.Prelude.{◌==◌, find, is_some, option_map}
 use Rattle.std.specs.Bool.{then_some}
 use Rattle.std.proofs.lemmas.Bool.{eqb-true}
 use Rattle.gate_types.specs.declared.records.Ready.{Ready}
@@ -11,10 +11,9 @@ use Rattle.gate_types.specs.Tables.{approval_of}
 use Rattle.gate_types.specs.Rows.{row_of}
 use Rattle.gate_types.specs.Lawful.{IsSound}
 use Rattle.gate_laws.proofs.Members.{found}
-use Rattle.gate_book_trait.specs.declared.fault.BookFault.{BookFault}
 use Rattle.gate_book_trait.specs.declared.rows.QueuedItem.{QueuedItem}
-use Rattle.gate_book_trait.specs.Reads.{queued_of, Answers}
-use Rattle.gate_reads.specs.Orders.{TellsShown}
+use Rattle.gate_book_trait.specs.Reads.{queued_of}
+use Rattle.gate_reads.specs.Orders.{IsRowOf}
 use Rattle.gate_reads.specs.Stands.{IsQueuedAs}
 use Rattle.gate_reads.proofs.Found.{any_found, found_itself, some_before, none_before}
 use Rattle.gate_reads.proofs.Stood.{Stood, stood, stood_there, queued_as, serial_of, change_of, change_once}
@@ -23,27 +22,26 @@ use Rattle.gate_reads.proofs.ShownOrders.{shows, if_shown, order_as, shown_is}
 use Rattle.gate_reads.proofs.Passing.{row_of_order, stored_at}
 use Rattle.gate_reads.proofs.Queues.{named_itself}
 
--- what holds of an answer's value
-pub answered : {T : Type 0} {value : T} (P : T → Type 0) (r : Result T BookFault) → Answers value r → P value → IfOk r P
-answered P (Ok v) a p = subst P (sym a) p
-answered P (Err f) a p = tt
+-- an order that is shown, and its row, which is found by the change
+pub record IsFoundBy (c : Settings) (s : State) (number n : ℕ) (x : Stood) : Type 0 where
+  pub found_by : queued_of c s n ≡ Some (queued_as s x)
+  pub shown : shown_order c s number ≡ Some (order_as x)
+  pub row : IsRowOf c s x.queue.name (row_of s.builds x.place) (order_as x)
 
--- the row of a shown order, found by its change
-pub tells_shown : (c : Settings) (s : State) → are_sound c ≡ true → IsSound c s → (number : ℕ) (x : Stood) →
+pub found_by_change : (c : Settings) (s : State) → are_sound c ≡ true → IsSound c s → (number : ℕ) (x : Stood) →
     find (λ y. serial_of y == number) (stood c s) ≡ Some x → shows s x ≡ true → (n : ℕ) → n ≡ change_of x →
-    TellsShown c s (queued_of c s n) (shown_order c s number)
-tells_shown c s a h number x e shown n k =
+    IsFoundBy c s number n x
+found_by_change c s a h number x e shown n k =
     let m = (found (λ y. serial_of y == number) (stood c s) x e).0 in
     let there = stood_there c s x m in
-    let row : queued_of c s n ≡ Some (queued_as s x) = ap (queued_of c s) k ∙ queued_is c s (change_of x)
-    ∙ ap (option_map (queued_as s)) (found_itself change_of (stood c s) x m (change_once c s h (change_of x))) in
-    let order : shown_order c s number ≡ Some (order_as x) = shown_is c s h number
-    ∙ ap (λ o. option_map order_as (if_shown s o)) e ∙ ap (λ b. option_map order_as (then_some b x)) shown in
-    subst (λ o. TellsShown c s o (shown_order c s number)) (sym row)
-    (subst (TellsShown c s (Some (queued_as s x))) (sym order)
-    (row_of_order c s x.queue.name x.queue x.place (row_of s.builds x.place)
-    (named_itself c s a h x.queue there.0) there.1
-    refl))
+    record {
+      found_by = ap (queued_of c s) k ∙ queued_is c s (change_of x)
+          ∙ ap (option_map (queued_as s)) (found_itself change_of (stood c s) x m (change_once c s h (change_of x)));
+      shown = shown_is c s h number
+          ∙ ap (λ o. option_map order_as (if_shown s o)) e ∙ ap (λ b. option_map order_as (then_some b x)) shown;
+      row = row_of_order c s x.queue.name x.queue x.place (row_of s.builds x.place)
+          (named_itself c s a h x.queue there.0) there.1 refl;
+    }
 
 -- a change that is found stands in the queue that its row tells of
 pub queued_so : (c : Settings) (s : State) → are_sound c ≡ true → IsSound c s → (n : ℕ) (k : QueuedItem) →

@@ -10,7 +10,7 @@ use Rattle.gate_types.specs.Standing.{places_after, place_of, places}
 use Rattle.gate_types.specs.Rows.{row_of}
 use Rattle.gate_book_trait.specs.Reads.{queue_named, items_in, first_items_above, live_builds, plans_of_items}
 use Rattle.gate_book_trait.specs.Reads.{builds_of_items}
-use Rattle.gate_reads.specs.declared.due.ToldItem.{ToldItem}
+use Rattle.gate_reads.specs.declared.due.BookItem.{BookItem}
 use Rattle.gate_reads.specs.declared.part.Part.{Part}
 
 -- the most items that are read at once
@@ -43,7 +43,7 @@ pub record AreBehind (c : Settings) (s : State) (name : List ℕ) (ahead : List 
   pub ahead_is : ahead ≡ map item_entry before
 
 -- what is told of an item is so: its jobs, whether one failure ends them all, its live builds
-pub record IsTold (s : State) (told : ToldItem) : Type 0 where
+pub record IsTold (s : State) (told : BookItem) : Type 0 where
   pub jobs : told.jobs.now ≡ (plan_of s told.row.serial).jobs
   pub fast : told.fast ≡ (plan_of s told.row.serial).fast
   pub builds : told.builds.now ≡ live_builds s told.row.serial

@@ -25,7 +25,7 @@ use std::alloc::Global;
 
 /// An item as a book tells of it: its row, the jobs of its plan, whether one failure ends them all, its live builds.
 #[derive(Clone, Copy)]
-pub(crate) struct ToldItem<'a> {
+pub(crate) struct BookItem<'a> {
     pub row: Item,
     pub jobs: &'a [Job],
     pub fast: bool,
@@ -111,7 +111,7 @@ pub(crate) fn build_of_item<B: Book>(
     queue: &Name,
     number: BuildNo,
     ahead: &Sequence<Entry>,
-    told: &ToldItem,
+    told: &BookItem,
 ) -> Result<Option<Build>, BookFault>
     ensures found { OfHeldUnder B.IsTrusted B.Holds book.old book.new config.now (λ x. (q : Queue) (p : Place) →
         IsBehind config.now x.state queue.now ahead.now told.now.row q p → IsTold x.state told.now →

@@ -1,16 +1,17 @@
 //! The orders that are shown.
 ghost use Rattle.std.specs.Prelude.{◌≡◌, IfOk, IfErr};
-ghost use Rattle.gate_types.specs.SubmitOrder.{shown_order, is_submitting};
+ghost use Rattle.gate_types.specs.SubmitOrder.{shown_order};
 ghost use Rattle.gate_book_trait.specs.Faults.{MayAnswer};
 ghost use Rattle.gate_book_trait.specs.Kept.{OfHeldUnder, IsKept};
 ghost use Rattle.gate_reads.specs.Orders.{order_in, TellsOrder, TellsShown};
 
-use crate::shown::{have_jobs_ended, is_shown};
+use crate::shown::{have_jobs_ended, plan_if_shown};
 use gate_book_trait::{Book, BookFault, QueuedItem};
 use gate_types::config::Config;
 use gate_types::names::Name;
-use gate_types::numbers::{ChangeNo, Serial};
-use gate_types::records::Item;
+use gate_types::numbers::Serial;
+use gate_types::records::{Build, Item, Plan};
+use gate_types::sequence::Sequence;
 use std::alloc::Global;
 
 /// The row of the item whose order a queue shows: the first that isn't failing, if each of its jobs has ended.
@@ -36,13 +37,21 @@ pub fn order_of_queue<B: Book>(
     Ok(None)
 }
 
-/// The row of the item whose order is shown under a number, and its queue.
+/// The item of a shown order, as a book tells of it: its row and its queue, its plan, and its live builds.
+#[derive(Drop)]
+pub struct ShownItem {
+    pub queued: QueuedItem,
+    pub plan: Plan,
+    pub builds: Sequence<Build>,
+}
+
+/// The item whose order is shown under a number. What is read on the way is told, so that nothing is asked twice.
 pub fn shown_order<B: Book>(
     alloc: Global,
     book: &mut B,
     config: &Config,
     number: Serial,
-) -> Result<Option<QueuedItem>, BookFault>
+) -> Result<Option<ShownItem>, BookFault>
     ensures found { OfHeldUnder B.IsTrusted B.Holds book.old book.new config.now (λ x.
         IfOk result (λ found. TellsShown config.now x.state found (shown_order config.now x.state number))) }
     ensures kept { IsKept B.IsTrusted B.Holds B.LeavesOneOf book.old book.new }
@@ -52,26 +61,16 @@ pub fn shown_order<B: Book>(
     let Some(item) = book.item(number)? else {
         return Ok(None);
     };
-    if !is_shown(alloc, book, config, &item)? {
+    let builds = book.live_builds(item.serial)?;
+    let Some(plan) = plan_if_shown(alloc, book, config, &item, builds.as_slice())? else {
         return Ok(None);
-    }
-    book.queued(item.change)
-}
-
-/// Whether an order for a change is shown.
-pub fn is_submitting<B: Book>(
-    alloc: Global,
-    book: &mut B,
-    config: &Config,
-    change: ChangeNo,
-) -> Result<bool, BookFault>
-    ensures found { OfHeldUnder B.IsTrusted B.Holds book.old book.new config.now (λ x.
-        IfOk result (λ shown. shown ≡ is_submitting config.now x.state change)) }
-    ensures kept { IsKept B.IsTrusted B.Holds B.LeavesOneOf book.old book.new }
-    ensures fault { IfErr result (MayAnswer B.MayFault) }
-{
-    match book.queued(change)? {
-        Some(queued) => is_shown(alloc, book, config, &queued.item),
-        None => Ok(false),
-    }
+    };
+    let Some(queued) = book.queued(item.change)? else {
+        return Ok(None);
+    };
+    Ok(Some(ShownItem {
+        queued,
+        plan,
+        builds,
+    }))
 }

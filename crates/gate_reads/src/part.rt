@@ -11,7 +11,7 @@ ghost use Rattle.gate_reads.specs.NextBuild.{with_number};
 ghost use Rattle.gate_reads.specs.Parts.{last_serial, ahead_behind, most_at_once, AreBehind, AreTold, TellsPart};
 
 use crate::choosing::push_unless_failing;
-use crate::due::{ToldItem, build_of_item};
+use crate::due::{BookItem, build_of_item};
 use gate_book_trait::{Book, BookFault};
 use gate_types::config::Config;
 use gate_types::names::Name;
@@ -103,20 +103,20 @@ fn planned(plans: &[Plan], serial: Serial) -> Option<&Plan>
 }
 
 /// An item with the jobs of its plan and its builds; without jobs where it has no plan.
-fn told<'p>(plans: &'p [Plan], builds: &'p [Build], item: &Item) -> ToldItem<'p>
+fn told<'p>(plans: &'p [Plan], builds: &'p [Build], item: &Item) -> BookItem<'p>
     ensures row { result.row ≡ item.now }
     ensures jobs { result.jobs.now ≡ (plan_in plans.now item.now.serial).jobs }
     ensures fast { result.fast ≡ (plan_in plans.now item.now.serial).fast }
     ensures builds { result.builds.now ≡ builds.now }
 {
     match planned(plans, item.serial) {
-        Some(plan) => ToldItem {
+        Some(plan) => BookItem {
             row: *item,
             jobs: plan.jobs.as_slice(),
             fast: plan.fast,
             builds,
         },
-        None => ToldItem {
+        None => BookItem {
             row: *item,
             jobs: &[],
             fast: false,

@@ -2,11 +2,14 @@
 ghost use Rattle.std.specs.Prelude.{IfOk, IfErr};
 ghost use Rattle.gate_book_trait.specs.Faults.{MayAnswer};
 ghost use Rattle.gate_book_trait.specs.Kept.{OfHeldUnder, IsKept};
-ghost use Rattle.gate_reads.specs.Stands.{StandsSo};
+ghost use Rattle.gate_reads.specs.Stands.{StandsSo, QueuesSo};
 
+use crate::shown::plan_if_shown;
 use gate_book_trait::{Book, BookFault, QueuedItem};
 use gate_types::config::Config;
 use gate_types::numbers::ChangeNo;
+use gate_types::records::Build;
+use gate_types::sequence::Sequence;
 use std::alloc::Global;
 
 /// Where a change stands.
@@ -40,4 +43,47 @@ pub fn stand_of<B: Book>(
         Some(_) => Ok(Stand::Ready),
         None => Ok(Stand::Nowhere),
     }
+}
+
+/// An item as a book tells of it: its row and its queue, and its live builds.
+#[derive(Drop)]
+pub struct LiveItem {
+    pub queued: QueuedItem,
+    pub builds: Sequence<Build>,
+}
+
+/// Where a change stands in the queues.
+#[derive(Drop)]
+pub enum QueuePlace {
+    /// It is an item, and its order is shown.
+    Submitting,
+    /// It is an item, and its order isn't shown.
+    Item(LiveItem),
+    /// It is in no queue.
+    Outside,
+}
+
+/// Where a change stands in the queues. What is read on the way is told, so that nothing is asked twice.
+pub fn queue_place<B: Book>(
+    alloc: Global,
+    book: &mut B,
+    config: &Config,
+    change: ChangeNo,
+) -> Result<QueuePlace, BookFault>
+    ensures found { OfHeldUnder B.IsTrusted B.Holds book.old book.new config.now (λ x.
+        IfOk result (QueuesSo config.now x.state change)) }
+    ensures kept { IsKept B.IsTrusted B.Holds B.LeavesOneOf book.old book.new }
+    ensures fault { IfErr result (MayAnswer B.MayFault) }
+{
+    config.show_sound();
+    let Some(queued) = book.queued(change)? else {
+        return Ok(QueuePlace::Outside);
+    };
+    let item = queued.item;
+    let builds = book.live_builds(item.serial)?;
+    let plan = plan_if_shown(alloc, book, config, &item, builds.as_slice())?;
+    if plan.is_some() {
+        return Ok(QueuePlace::Submitting);
+    }
+    Ok(QueuePlace::Item(LiveItem { queued, builds }))
 }

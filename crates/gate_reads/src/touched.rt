@@ -1,4 +1,10 @@
 //! The one item that a delivery touches.
+ghost use Rattle.std.specs.Prelude.{IfOk, IfErr};
+ghost use Rattle.gate_book_trait.specs.Faults.{MayAnswer};
+ghost use Rattle.gate_book_trait.specs.Kept.{OfHeld, IsKept};
+ghost use Rattle.gate_reads.specs.Touches.{AreFigures};
+
+use gate_book_trait::{Book, BookFault};
 use gate_types::deliveries::Ending;
 use gate_types::names::Name;
 use gate_types::numbers::BuildNo;
@@ -13,10 +19,31 @@ pub enum Event {
     Landed,
 }
 
-/// An item that a delivery touched: its queue, its row as it was stored before, and what befell it.
+/// How many items of a queue may be tested at once, which is none where there is no such queue, and how many reports it
+/// has made.
+#[derive(Clone, Copy)]
+pub struct QueueFigures {
+    pub window: Option<u32>,
+    pub reports: u64,
+}
+
+/// The figures of a queue.
+pub fn figures_of<B: Book>(book: &mut B, queue: &Name) -> Result<QueueFigures, BookFault>
+    ensures found { OfHeld B.IsTrusted B.Holds book.old book.new (λ c x. IfOk result (AreFigures x.state queue.now)) }
+    ensures kept { IsKept B.IsTrusted B.Holds B.LeavesOneOf book.old book.new }
+    ensures fault { IfErr result (MayAnswer B.MayFault) }
+{
+    let window = book.window(queue)?;
+    let reports = book.reports(queue)?;
+    Ok(QueueFigures { window, reports })
+}
+
+/// An item that a delivery touched: its queue, its row and the queue's figures as they were stored before, and what
+/// befell it.
 #[derive(Drop)]
 pub struct TouchedItem {
     pub queue: Name,
     pub item: Item,
     pub event: Event,
+    pub figures: QueueFigures,
 }

@@ -25,14 +25,14 @@ use Rattle.gate_laws.specs.Touch.{is_stale}
 use Rattle.gate_laws.proofs.EachAccepted.{closed_state, new_revision, landed_state, refused_state}
 
 -- a stale reply, and nothing changed, or another, and this is true
-abbrev pub Told : State → (State → Type 0) → Reply → State → Type 0
-Told s P r t = ((is_stale r ≡ true) × (t ≡ s)) ⊎ ((is_stale r ≡ false) × P t)
+abbrev pub IsStaleOr : State → (State → Type 0) → Reply → State → Type 0
+IsStaleOr s P r t = ((is_stale r ≡ true) × (t ≡ s)) ⊎ ((is_stale r ≡ false) × P t)
 
 abbrev pub OnReply : State → (State → Type 0) → Stepped → Type 0
-OnReply s P (accepted r t) = Told s P r t
+OnReply s P (accepted r t) = IsStaleOr s P r t
 OnReply s P (refused r) = Unit {0}
 
-pub on_reply : (s : State) (P : State → Type 0) (x : Stepped) → OnReply s P x → (r : Reply) (t : State) → x ≡ accepted r t → Told s P r t
+pub on_reply : (s : State) (P : State → Type 0) (x : Stepped) → OnReply s P x → (r : Reply) (t : State) → x ≡ accepted r t → IsStaleOr s P r t
 on_reply s P x h r t e = subst (OnReply s P) e h
 
 -- the two sides of a test

@@ -187,7 +187,7 @@ fn append_all(
 
 /// What a visit comes to.
 #[derive(Drop)]
-struct Told {
+struct VisitEnd {
     edits: Vec<Edit>,
     failing: bool,
     verdict: Option<Verdict>,
@@ -198,7 +198,7 @@ impl Walk {
     ghost use Rattle.gate_walk.specs.UnderWay.{Delivered, HasVisited, row_wanted, IsFor, Starts, Visits};
 
     /// What a visit of this row comes to.
-    fn told(&self, alloc: Global, seen: &Seen) -> Result<Told, NoMemory>
+    fn told(&self, alloc: Global, seen: &Seen) -> Result<VisitEnd, NoMemory>
         ensures edits { IfOk result (λ t. t.edits.items ≡
             rules.visit_edits self.now.name self.now.bounds self.now.carry (seen_of seen.now)) }
         ensures failing { IfOk result (λ t. t.failing ≡ rules.fails self.now.carry (seen_of seen.now)) }
@@ -239,7 +239,7 @@ impl Walk {
             judged.verdict,
             seen.builds,
         )?;
-        Ok(Told {
+        Ok(VisitEnd {
             edits: edits.into_vec(),
             failing: judged.failing,
             verdict: judged.verdict,
@@ -322,7 +322,7 @@ impl Walk {
         ensures same { OnErr result (self.new ≡ self.old) }
     {
         let told = self.told(alloc, seen)?;
-        let Told {
+        let VisitEnd {
             edits,
             failing,
             verdict,

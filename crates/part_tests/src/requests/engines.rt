@@ -1,6 +1,6 @@
 //! An engine with fixed answers, and scenes of what it is asked.
 use crate::requests::scenes::{Fresh, each_plays};
-use gate_http::{Page, Respond, Stream, StreamFault, Told};
+use gate_http::{AnswerIfAny, Page, Respond, Stream, StreamFault};
 use gate_types::deliveries::{Answer, Refusal};
 use gate_types::names::Text;
 use gate_types::tap::Tap;
@@ -66,11 +66,11 @@ impl Respond for Fixed {
         }
     }
 
-    fn show_item(&mut self, alloc: Global, number: &[u8]) -> Told {
+    fn show_item(&mut self, alloc: Global, number: &[u8]) -> AnswerIfAny {
         if number == b"3".as_slice() {
-            Told::Answer(said(alloc, "{}"))
+            AnswerIfAny::Answer(said(alloc, "{}"))
         } else {
-            Told::NoItem
+            AnswerIfAny::NoItem
         }
     }
 

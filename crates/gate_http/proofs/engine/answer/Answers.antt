@@ -4,7 +4,7 @@ use Rattle.std.proofs.KnownBytes.{Appends-nil}
 use Rattle.gate_types.specs.Tap.{Took, TookFront}
 use Rattle.gate_http.specs.declared.response.Extent.TheVariants as extent
 use Rattle.gate_http.specs.declared.fault.HttpFault.TheVariants as fault
-use Rattle.gate_http.specs.declared.respond.Told.TheVariants as told
+use Rattle.gate_http.specs.declared.respond.AnswerIfAny.TheVariants as told
 use Rattle.gate_http.specs.declared.response.Form.TheVariants as form
 use Rattle.gate_http.specs.declared.served.Served.TheVariants.{Nothing}
 use Rattle.gate_http.specs.Asked.{delivery}

@@ -1,6 +1,6 @@
 use Rattle.std.proofs.Common.{◌∙◌, sym, ap}
 use Rattle.std.specs.Prelude.{string_bytes}
-use Rattle.gate_texts.specs.declared.item.ToldItem.{ToldItem}
+use Rattle.gate_texts.specs.declared.item.WrittenItem.{WrittenItem}
 use Rattle.gate_texts.proofs.ItemTexts.{queued_told, left_told}
 use Rattle.gate_texts.proofs.item.told_item.Goals as goal
 
@@ -13,9 +13,9 @@ returns-in-Some-clause-found g c trusted x holds lawful =
     queued_told config x c.show_sound.ensures lawful
     c.args.serial c.in-Some.queued c.of_queued.result
     (sym c.in-Some.is ∙ c.in_ok-queued.ensures.found before config x holds lawful)
-    (ap (λ (t : ToldItem). t.queue) told) (ap (λ (t : ToldItem). t.change) told)
-    (ap (λ (t : ToldItem). t.revision) told) (ap (λ (t : ToldItem). t.verdict) told)
-    (ap (λ (t : ToldItem). string_bytes t.jobs) told ∙ c.in_ok-jobs.ensures.found trusted config x held lawful)
+    (ap (λ (t : WrittenItem). t.queue) told) (ap (λ (t : WrittenItem). t.change) told)
+    (ap (λ (t : WrittenItem). t.revision) told) (ap (λ (t : WrittenItem). t.verdict) told)
+    (ap (λ (t : WrittenItem). string_bytes t.jobs) told ∙ c.in_ok-jobs.ensures.found trusted config x held lawful)
 
 pub returns-in_ok-from_str-in-Some-2-clause-found : goal.returns-in_ok-from_str-in-Some-2-clause-found
 returns-in_ok-from_str-in-Some-2-clause-found g c trusted x holds lawful =
@@ -26,6 +26,6 @@ returns-in_ok-from_str-in-Some-2-clause-found g c trusted x holds lawful =
     left_told config x.state c.args.serial c.in-Some-2.left c.of_left.result
     (sym c.in_default.is ∙ c.in_ok-queued.ensures.found before config x holds lawful)
     (sym c.in-Some-2.is ∙ c.in_ok-left.ensures.found trusted config x held lawful)
-    (ap (λ (t : ToldItem). t.queue) told) (ap (λ (t : ToldItem). t.change) told)
-    (ap (λ (t : ToldItem). t.revision) told) (ap (λ (t : ToldItem). t.verdict) told)
-    (ap (λ (t : ToldItem). string_bytes t.jobs) told ∙ c.in_ok-from_str-in-Some-2.ensures.ok)
+    (ap (λ (t : WrittenItem). t.queue) told) (ap (λ (t : WrittenItem). t.change) told)
+    (ap (λ (t : WrittenItem). t.revision) told) (ap (λ (t : WrittenItem). t.verdict) told)
+    (ap (λ (t : WrittenItem). string_bytes t.jobs) told ∙ c.in_ok-from_str-in-Some-2.ensures.ok)

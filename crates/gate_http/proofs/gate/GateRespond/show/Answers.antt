@@ -5,7 +5,7 @@ use Rattle.gate_types.specs.OrderList.{order_list_text}
 use Rattle.gate_archive.specs.RunningBuilds.{running_text}
 use Rattle.gate_core.specs.Holding.{settings_of}
 use Rattle.gate_http.specs.declared.respond.Page.TheVariants as pages
-use Rattle.gate_http.specs.declared.respond.Told.TheVariants as told
+use Rattle.gate_http.specs.declared.respond.AnswerIfAny.TheVariants as told
 use Rattle.gate_http.specs.Asked.{page}
 use Rattle.gate_http.proofs.AskedLemmas.{shown_is}
 use Rattle.gate_http.proofs.ServingLemmas.{responds_kept}

@@ -3,7 +3,7 @@ use Rattle.std.specs.Prelude.{string_bytes}
 use Rattle.gate_types.specs.declared.deliveries.Answer.TheVariants.{Refused}
 use Rattle.gate_types.specs.declared.deliveries.Refusal.TheVariants as refusal
 use Rattle.gate_types.specs.Step.{build_of}
-use Rattle.gate_http.specs.declared.respond.Told.TheVariants as told
+use Rattle.gate_http.specs.declared.respond.AnswerIfAny.TheVariants as told
 use Rattle.gate_http.specs.Answer.{build_number, answer_found}
 use Rattle.gate_http.specs.Asked.{build}
 use Rattle.gate_http.proofs.AskedLemmas.{found_is, named_is}

@@ -5,7 +5,7 @@ use Rattle.gate_types.specs.declared.deliveries.Refusal.TheVariants as refusal
 use Rattle.gate_types.specs.State.{known_change}
 use Rattle.gate_archive.specs.ChangeText.{change_text}
 use Rattle.gate_core.specs.Holding.{settings_of}
-use Rattle.gate_http.specs.declared.respond.Told.TheVariants as told
+use Rattle.gate_http.specs.declared.respond.AnswerIfAny.TheVariants as told
 use Rattle.gate_http.specs.Answer.{change_number, change_said, answer_known}
 use Rattle.gate_http.specs.Asked.{change}
 use Rattle.gate_http.proofs.AskedLemmas.{known_is, named_is}

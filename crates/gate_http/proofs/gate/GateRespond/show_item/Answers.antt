@@ -2,7 +2,7 @@ use Rattle.std.proofs.Common.{refl, Some, None}
 use Rattle.std.specs.Prelude.{string_bytes}
 use Rattle.gate_archive.specs.ItemText.{item_text}
 use Rattle.gate_core.specs.Holding.{settings_of}
-use Rattle.gate_http.specs.declared.respond.Told.TheVariants as told
+use Rattle.gate_http.specs.declared.respond.AnswerIfAny.TheVariants as told
 use Rattle.gate_http.specs.Answer.{item_serial, told_item}
 use Rattle.gate_http.specs.Asked.{item}
 use Rattle.gate_http.proofs.AskedLemmas.{item_is, named_is}
