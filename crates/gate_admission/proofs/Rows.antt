@@ -1,7 +1,7 @@
 -- What stands under a key after rows were put and dropped.
 use Rattle.std.proofs.Common.{◌≡◌, ℕ, Bool, true, false, not, ◌&&◌, cond, Option, Some, None, List, [], ◌∷◌, fold}
 use Rattle.std.proofs.Common.{refl, sym, ap, ◌∙◌, true≢false}
-use Rattle.std.specs.Prelude.{find, filter, nat_lt, ◌==◌, option_map}
+use Rattle.std.specs.Prelude.{find, filter, nat_lt, ◌==◌, if◌then◌else◌, option_map}
 use Rattle.std.specs.Option.{option_or}
 use Rattle.std.proofs.lemmas.Bool.{eqb-true, eq-eqb}
 use Rattle.gate_types.specs.declared.records.Change.{Change}
@@ -14,7 +14,7 @@ use Rattle.gate_types.specs.State.{put_by}
 use Rattle.gate_types.specs.Rows.{edited_items}
 use Rattle.gate_types.specs.Tables.{edited_changes}
 use Rattle.gate_book_trait.specs.RowReads.{change_in, row_of}
-use Rattle.gate_admission.specs.Seen.{change_put, last_put, item_after, items_after, item_at, fate_after, by_fate}
+use Rattle.gate_admission.specs.Seen.{change_put, last_put, items_after, item_at, fate_after, by_fate}
 use Rattle.gate_admission.specs.declared.items.Fate.{Fate}
 use Rattle.gate_admission.specs.declared.items.Fate.TheVariants as fate
 
@@ -160,6 +160,12 @@ pub last_or : (n : ℕ) (p : Option Change) (edits : List Edit) →
 last_or n p edits = put_or n None p edits
 
 -- ---- items
+
+-- the item of a serial in a queue after an edit
+abbrev pub item_after : List ℕ → ℕ → Option ItemRow → Edit → Option ItemRow
+item_after name serial item (edit.PutItem queue i) = if same_name queue name && i.serial == serial then Some i else item
+item_after name serial item (edit.DropItem k) = if k == serial then None else item
+item_after name serial item _ = item
 
 item_step : (name : List ℕ) (serial : ℕ) (rows : List ItemRow) (e : Edit) →
     item_at serial (edited_items name rows e) ≡ item_after name serial (item_at serial rows) e

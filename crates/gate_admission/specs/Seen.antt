@@ -38,12 +38,6 @@ abbrev pub ready_after : List Ready → Edit → List Ready
 ready_after ready (edit.PutChange k approval) = with_approval approval k.number (ready_without k.number ready)
 ready_after ready _ = ready
 
--- the item of a serial in a queue after an edit
-abbrev pub item_after : List ℕ → ℕ → Option ItemRow → Edit → Option ItemRow
-item_after name serial item (edit.PutItem queue i) = if same_name queue name && i.serial == serial then Some i else item
-item_after name serial item (edit.DropItem k) = if k == serial then None else item
-item_after name serial item _ = item
-
 -- what an edit makes of the item of a serial in a queue, whatever it was
 abbrev pub fate_after : List ℕ → ℕ → Fate → Edit → Fate
 fate_after name serial before (edit.PutItem queue i) =

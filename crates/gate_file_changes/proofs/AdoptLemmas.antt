@@ -9,10 +9,11 @@ use Rattle.std.proofs.lemmas.Bool.{and_parts}
 use Rattle.sqlite.specs.Tree.{Trees}
 use Rattle.sqlite_keyed.proofs.ListLemmas.{map-map}
 use Rattle.gate_types.specs.Adopt.{may_adopt, adopted_content}
-use Rattle.gate_types.specs.AdoptedTables.{HasItsQueues, adopted_rows, adopted_window, empty_rows, resized_rows}
+use Rattle.gate_types.specs.AdoptedTables.{adopted_rows, adopted_window, empty_rows, resized_rows}
 use Rattle.gate_types.specs.Names.{same_name}
 use Rattle.gate_types.specs.Once.{Content}
 use Rattle.gate_types.specs.Settings.{Settings, has_queue}
+use Rattle.gate_types.specs.State.{Queue}
 use Rattle.gate_types.specs.SettingsText.{settings_text}
 use Rattle.gate_types.specs.Tables.{QueueRows, tables}
 use Rattle.gate_types.specs.declared.config.Queue.{Queue as QueueSetting}
@@ -158,6 +159,10 @@ still_there {X} list steady c told rs there name = by_any (list_any (λ r. same_
 -- ---- all of it
 
 -- the names of the queues that are told
+-- the queues of a content are those of the settings
+abbrev pub HasItsQueues : Settings → Content → Type 0
+HasItsQueues c x = map (λ (q : Queue). q.name) x.state.queues ≡ map (λ (q : QueueSetting). q.name) c.queues
+
 told_names : (c : Settings) (x : Content) → HasItsQueues c x → map (λ (q : QueueRows). q.name) (tables c x).queues ≡ map (λ (q : QueueSetting). q.name) c.queues
 told_names c x its = map-map _ _ x.state.queues ∙ its
 

@@ -16,9 +16,10 @@ use Rattle.gate_memory.specs.Sorted.{without}
 use Rattle.gate_memory.specs.Changes.{HasRoom}
 use Rattle.gate_memory.specs.Needs.{needs_of_all}
 use Rattle.gate_memory.specs.declared.changes.ChangeTable.{ChangeTable}
-use Rattle.gate_live.specs.Live.{LiveQueue}
+use Rattle.gate_memory.proofs.RoomLemmas.{changes_fewer}
+use Rattle.gate_memory.specs.HeldQueues.{LiveQueue}
 use Rattle.gate_live.specs.HeldChanges.{AnyAreHeldOf, AreRowsOf, rows_edited, has_row, with_row, with_rows, rows_put}
-use Rattle.gate_live.specs.HeldChanges.{fold_changes, needs_of_rows, without_change, without_left, change_touched}
+use Rattle.gate_live.specs.HeldChanges.{needs_of_rows, without_change, without_left, change_touched}
 use Rattle.gate_live.specs.HeldChanges.{is_queued_in}
 use Rattle.gate_live.proofs.HeldChangeLemmas.{approval_of_row, put_row, put_same, put_other, put_found, without_other}
 use Rattle.gate_live.proofs.HeldChangeLemmas.{without_same, approval_held}
@@ -65,6 +66,10 @@ edits_put : (edits : List Edit) (all : List ChangeRow) → fold edited_changes a
 edits_put [] all = refl
 edits_put (edit.PutChange k a ∷ es) all = edits_put es (put_row all (record { change = k; approval = a }))
 edits_put (_ ∷ es) all = edits_put es all
+
+-- all rows of changes after a list of edits
+abbrev pub fold_changes : List ChangeRow → List Edit → List ChangeRow
+fold_changes all edits = fold edited_changes all edits
 
 -- the rows that are held after edits are of those that all then are
 pub held_after : (edits : List Edit) (rows all : List ChangeRow) → AreRowsOf rows all → AreRowsOf (with_rows rows (rows_put edits)) (fold_changes all edits)
@@ -175,15 +180,6 @@ needs_same [] = refl
 needs_same (edit.PutChange k a ∷ es) = ap (λ n. length k.needs + n) (needs_same es)
 needs_same (_ ∷ es) = let rest = needs_same es in omega (arith, rest)
 
--- room for more is room for fewer
-pub room_fewer : (n m k j : ℕ) (t : ChangeTable) → k ≤ n → j ≤ m → HasRoom n m t → HasRoom k j t
-room_fewer n m k j t less few room = record {
-  rows = omega (arith, room.rows);
-  positions = omega (arith, room.positions);
-  ready = omega (arith, room.ready);
-  needs = omega (arith, room.needs);
-}
-
--- and for one
+-- room for more is room for one
 pub room_one : (n m k : ℕ) (t : ChangeTable) → HasRoom (suc n) (m + k) t → HasRoom 1 m t
-room_one n m k t room = room_fewer (suc n) (m + k) 1 m t (omega arith) (omega arith) room
+room_one n m k t room = changes_fewer (suc n) (m + k) 1 m t (omega arith) (omega arith) room

@@ -12,14 +12,15 @@ use Rattle.gate_types.specs.Tables.{Leads, Tables, edited_tables, fold_all, tabl
 use Rattle.gate_book_trait.specs.RowReads.{change_in}
 use Rattle.gate_book_trait.proofs.ReadLemmas.{change_is}
 use Rattle.gate_book_trait.specs.Reads as read
-use Rattle.gate_live.specs.Live.{LiveQueue, LiveTables, live_items, live_tables}
+use Rattle.gate_memory.specs.HeldQueues.{LiveQueue}
+use Rattle.gate_live.specs.Live.{LiveTables, live_items, live_tables}
 use Rattle.gate_live.specs.Held.{IsLiveOf, live_of}
 use Rattle.gate_live.specs.Parts.{Agrees, Parts}
 use Rattle.gate_live.specs.declared.held.Held.{Held}
-use Rattle.gate_live.specs.HeldChanges.{AnyAreHeldOf, AreChangesOf, AreRowsOf, changes_held, fold_changes, rows_edited}
+use Rattle.gate_live.specs.HeldChanges.{AnyAreHeldOf, AreChangesOf, AreRowsOf, changes_held, rows_edited}
 use Rattle.gate_live.specs.declared.held_changes.HeldChanges.{HeldChanges}
 use Rattle.gate_live.proofs.ReadLemmas.{live_items_are}
-use Rattle.gate_live.proofs.ChangeEditLemmas.{any_edited}
+use Rattle.gate_live.proofs.ChangeEditLemmas.{any_edited, fold_changes}
 
 -- the changes of edited tables are the edited changes
 pub changes_after : (t : Tables) (edits : List Edit) → (fold_all t edits).changes ≡ fold_changes t.changes edits

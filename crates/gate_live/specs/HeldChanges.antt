@@ -32,12 +32,12 @@ use Rattle.gate_types.specs.declared.rows.ChangeRow.{ChangeRow}
 use Rattle.gate_types.specs.State.{put_by}
 use Rattle.gate_types.specs.Settings.{Settings}
 use Rattle.gate_types.specs.Once.{Content}
-use Rattle.gate_types.specs.Tables.{edited_changes, tables}
+use Rattle.gate_types.specs.Tables.{tables}
 use Rattle.gate_types.specs.Keys.{number_of_change}
 use Rattle.gate_book_trait.specs.RowReads.{row_of, approval_in}
 use Rattle.gate_memory.specs.Sorted.{without}
 use Rattle.gate_memory.specs.Changes as change_table
-use Rattle.gate_live.specs.Live.{LiveQueue, live_queued}
+use Rattle.gate_memory.specs.HeldQueues.{LiveQueue, live_queued}
 use Rattle.gate_live.specs.Held.{live_of}
 use Rattle.gate_live.specs.declared.held.Held.{Held}
 use Rattle.gate_live.specs.declared.held_changes.HeldChanges.{HeldChanges}
@@ -85,10 +85,6 @@ row_put _ = None
 -- the rows of changes that a list of edits puts, in the order of the edits
 abbrev pub rows_put : List Edit → List ChangeRow
 rows_put edits = filter_map row_put edits
-
--- all rows of changes after a list of edits
-abbrev pub fold_changes : List ChangeRow → List Edit → List ChangeRow
-fold_changes all edits = fold edited_changes all edits
 
 -- the total number of needs of these rows
 abbrev pub needs_of_rows : List ChangeRow → ℕ

@@ -3,12 +3,14 @@ use Rattle.std.proofs.Common.{arith, ◌<◌, drop, ◌≡◌, ℕ, suc, Bool, t
 use Rattle.std.proofs.Common.{◌∷◌, ◌++◌, length, refl, sym, ap, ◌∙◌}
 use Rattle.std.specs.Prelude.{slice_get, find, unwrap_or}
 use Rattle.std.specs.Option.{option_or, option_map}
-use Rattle.std.specs.HashMap.{get}
+use Rattle.std.specs.HashMap.{get, HashMap}
+use Rattle.std.specs.declared.hash.FoldHasher.{FoldHasher}
+use Rattle.std.specs.declared.hash.BuildHasherDefault.{BuildHasherDefault}
 use Rattle.std.proofs.lemmas.Option.{none-some}
 use Rattle.gate_types.specs.declared.records.Id.{Id}
 use Rattle.gate_archive.specs.Feed.{behind_id}
 use Rattle.gate_types.specs.declared.records.Kept.{Kept}
-use Rattle.gate_memory.specs.Replies.{Positions, same_id, has_id, position_by}
+use Rattle.gate_memory.specs.Replies.{same_id, has_id, position_by}
 
 push_step : (n : ℕ) (o : Option ℕ) (c b : Bool) (r : Option ℕ) → r ≡ option_or o (cond c (Some n) None) → cond b (Some 0) (option_map (λ i. suc i) r) ≡ option_or (cond b (Some 0) (option_map (λ i. suc i) o)) (cond c (Some (suc n)) None)
 push_step n o c true r e = refl
@@ -22,6 +24,10 @@ push_step n o c false r e = ap (λ p. option_map (λ i. suc i) p) e ∙ by_last 
 position_push : (p : Kept → Bool) (ks : List Kept) (k : Kept) → position_by p (ks ++ k ∷ []) ≡ option_or (position_by p ks) (cond (p k) (Some (length ks)) None)
 position_push p [] k = refl
 position_push p (x ∷ xs) k = push_step (length xs) (position_by p xs) (p k) (p x) (position_by p (xs ++ k ∷ [])) (position_push p xs k)
+
+-- the positions of ids
+abbrev pub Positions : Type 0
+Positions = HashMap (List ℕ) ℕ (BuildHasherDefault FoldHasher)
 
 -- the positions are those of these deliveries
 abbrev pub Finds : Positions → List Kept → Type 0

@@ -1,16 +1,10 @@
 -- How a book in memory keeps deliveries: in the order in which they were accepted, beside their positions by id.
 use Rattle.std.specs.Prelude.{ℕ, Bool, ◌≡◌, ◌≤◌, ◌+◌, if◌then◌else◌, suc, nat_eq, List, [], ◌∷◌, Option, Some, None}
 use Rattle.std.specs.Prelude.{option_map, vec_len, vec_capacity}
-use Rattle.std.specs.HashMap.{get, spare, HashMap}
-use Rattle.std.specs.declared.hash.FoldHasher.{FoldHasher}
-use Rattle.std.specs.declared.hash.BuildHasherDefault.{BuildHasherDefault}
+use Rattle.std.specs.HashMap.{get, spare}
 use lib.Pointwise.{pointwise}
 use Rattle.gate_types.specs.declared.records.Kept.{Kept}
 use Rattle.gate_memory.specs.declared.replies.ReplyTable.{ReplyTable}
-
--- the positions of ids
-abbrev pub Positions : Type 0
-Positions = HashMap (List ℕ) ℕ (BuildHasherDefault FoldHasher)
 
 -- two ids are the same bytes
 abbrev pub same_id : List ℕ → List ℕ → Bool

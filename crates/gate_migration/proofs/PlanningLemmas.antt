@@ -25,7 +25,7 @@ use Rattle.gate_schema.specs.Rows.{Stored, change_key}
 use Rattle.gate_rows.proofs.ThenLemmas.{survives_itself}
 use Rattle.gate_queue_queries.specs.First.{IsProjectOf}
 use Rattle.gate_found_rows.specs.Reads.{IsOnlyRead}
-use Rattle.gate_migration.specs.Migrates.{TellsQueue, pair_of_item, pair_of_landing, plan_for, puts}
+use Rattle.gate_migration.specs.Migrates.{TellsQueue, pair_of_item, plan_for, puts}
 use Rattle.gate_book_trait.proofs.Finding.{rest_at, rest_none}
 
 -- ---- the project of a change
@@ -67,6 +67,10 @@ nothing_read s = record {
 }
 
 -- ---- lists
+
+-- the serial of a landing, and its change
+abbrev pub pair_of_landing : Landing → ℕ × ℕ
+pair_of_landing l = (l.serial, l.change)
 
 -- the plans of a queue are those of its items and then those of its landings
 pub queue_plans : (c : Settings) (s : State) (q : Queue)

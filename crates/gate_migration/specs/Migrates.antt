@@ -13,7 +13,6 @@ use Rattle.gate_types.specs.declared.config.Queue.{Queue as QueueSetting}
 use Rattle.gate_types.specs.declared.edits.Edit.{Edit}
 use Rattle.gate_types.specs.declared.edits.Edit.TheVariants as edit
 use Rattle.gate_types.specs.declared.records.Item.{Item as ItemRow}
-use Rattle.gate_types.specs.declared.records.Landing.{Landing}
 use Rattle.gate_types.specs.declared.records.Plan.{Plan}
 use Rattle.gate_rows.specs.Matches.{items_of}
 use Rattle.gate_rows.specs.Writes.{LeavesNothing}
@@ -46,9 +45,6 @@ pair_of_row i = (i.serial, i.change)
 
 abbrev pub pair_of_item : Item → ℕ × ℕ
 pair_of_item i = (i.serial, i.change)
-
-abbrev pub pair_of_landing : Landing → ℕ × ℕ
-pair_of_landing l = (l.serial, l.change)
 
 -- a file's items and landings of a queue are the queue's
 pub record TellsQueue (b : Stored) (q : Queue) : Type 0 where

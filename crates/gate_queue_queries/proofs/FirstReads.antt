@@ -39,7 +39,7 @@ use Rattle.gate_schema.proofs.QueryLemmas.{kept_is, over_table, passes}
 use Rattle.gate_schema.proofs.Statements.{key_is, no_limit}
 use Rattle.gate_schema.proofs.ValueLemmas.{equal_numbers, equal_texts}
 use Rattle.gate_found_rows.specs.Finds.{Finds, IsPlainQuery, Stays}
-use Rattle.gate_queue_queries.specs.First.{HoldsLandings, IsProjectOf, ShowsFirst, first_schema, name_shown, pair_shown}
+use Rattle.gate_queue_queries.specs.First.{HoldsLandings, IsProjectOf, ShowsFirst, first_schema, pair_shown}
 use Rattle.gate_found_rows.specs.Shown.{number_shown}
 use Rattle.gate_found_rows.proofs.KeyedReads.{finds_few, finds_rising, one_at, rises, rising}
 use Rattle.gate_found_rows.proofs.ListedReads.{kept_shown, told_behind}
@@ -150,6 +150,10 @@ project_query = over_table 7 (key_is 0 ∷ []) (col 1 2 ∷ []) [] no_limit
 pub project_asks : AsksFirst project_sql project_query (codes "project" ∷ [])
 unfolding understood everything
 project_asks = (refl, (refl, refl), refl)
+
+-- a name
+abbrev name_shown : List ℕ → Row
+name_shown name = Words name ∷ []
 
 project_found : (s : State) (b : Stored) (n : ℕ) (rows : List Row) → ShowsFirst s b → Finds project_sql (Int (pos n) ∷ []) s.now rows
     → rows ≡ map (λ (r : ChangeRow). name_shown r.change.project) (filter (λ (r : ChangeRow). eqb (change_key r) n) b.changes)

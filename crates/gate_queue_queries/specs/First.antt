@@ -3,7 +3,7 @@ use Rattle.std.specs.Prelude.{◌≡◌, ◌==◌, ℕ, pos, IsTrue, List, [], �
 use Rattle.sqlite.specs.Order.{Row}
 use Rattle.sqlite.specs.Schema.{Schema}
 use Rattle.sqlite.specs.State.{State}
-use Rattle.sqlite.specs.declared.types.Value.TheVariants.{Int, Text as Words}
+use Rattle.sqlite.specs.declared.types.Value.TheVariants.{Int}
 use Rattle.gate_types.specs.Tables.{numbered_landings}
 use Rattle.gate_types.specs.declared.records.Landing.{Landing}
 use Rattle.gate_types.specs.declared.rows.ChangeRow.{ChangeRow}
@@ -30,10 +30,6 @@ IsFirstOf s b = IsTrue s.is_open → ShowsFirst s b
 -- two numbers of a row
 abbrev pub pair_shown : ℕ → ℕ → Row
 pair_shown m n = Int (pos m) ∷ Int (pos n) ∷ []
-
--- a name
-abbrev pub name_shown : List ℕ → Row
-name_shown name = Words name ∷ []
 
 -- the tables hold these landings of a queue, the first at place 1
 abbrev pub HoldsLandings : Stored → List ℕ → List Landing → Type 0

@@ -1,13 +1,12 @@
 -- Edits that settle nothing: what they make of tables, whatever the columns of the items are.
-use Rattle.std.specs.Prelude.{ℕ, Bool, false, ◌==◌, ◌≡◌, List, map, Option, None, find}
-use Rattle.std.specs.Option.{option_map_or}
+use Rattle.std.specs.Prelude.{ℕ, Bool, ◌≡◌, List, map, Option}
 use Rattle.gate_types.specs.declared.records.Item.{Item as ItemRow}
 use Rattle.gate_types.specs.declared.records.Build.{Build}
 use Rattle.gate_types.specs.declared.edits.Edit.{Edit}
 use Rattle.gate_types.specs.Settings.{Settings}
 use Rattle.gate_types.specs.State.{Item, State}
 use Rattle.gate_types.specs.Line.{Place}
-use Rattle.gate_types.specs.Standing.{is_failing, ahead_of, all_places}
+use Rattle.gate_types.specs.Standing.{is_failing, ahead_of}
 use Rattle.gate_types.specs.Rebase.{rebase}
 use Rattle.gate_types.specs.Sweep.{sweep}
 use Rattle.gate_types.specs.Once.{Content}
@@ -43,12 +42,6 @@ tables_by columns x = tables_with (λ q. map (row_by columns) q.items) x
 -- the columns at a place
 abbrev pub columns_at : List Build → Place → Columns
 columns_at builds p = record { ahead = ahead_of p; failing = is_failing builds p }
-
--- the columns of a state, by serial
-abbrev pub columns_of : Settings → State → ℕ → Columns
-columns_of c s n =
-    option_map_or (columns_at s.builds) (find (λ p. p.item.serial == n) (all_places c s))
-    (record { ahead = None; failing = false })
 
 -- the edits move a content to another state, and leave the columns as they are, whatever they are
 abbrev pub Moves : Content → List Edit → State → Type 0

@@ -1,10 +1,9 @@
 -- How a delivery changes the window of the queue of the item that it touched.
-use Rattle.std.specs.Prelude.{ℕ, List, Option, find}
+use Rattle.std.specs.Prelude.{ℕ, Option}
 use Rattle.std.specs.Option.{option_map_or}
 use Rattle.gate_types.specs.declared.config.Queue.{Queue as QueueSetting}
 use Rattle.gate_types.specs.declared.records.Verdict.TheVariants as verdict
-use Rattle.gate_types.specs.Names.{same_name}
-use Rattle.gate_types.specs.Settings.{Settings, default_rule}
+use Rattle.gate_types.specs.Settings.{default_rule}
 use Rattle.gate_types.specs.Window.{Bounds, bounds_by, grow, shrink}
 use Rattle.gate_reads.specs.declared.touched.Event.{Event}
 use Rattle.gate_reads.specs.declared.touched.Event.TheVariants as event
@@ -12,10 +11,6 @@ use Rattle.gate_reads.specs.declared.touched.Event.TheVariants as event
 -- what a queue's settings say of its window, and the defaults where it has none
 abbrev pub bounds_if : Option QueueSetting → Bounds
 bounds_if settings = option_map_or bounds_by settings (record { floor = 1; rule = default_rule })
-
--- the same of the queue of a name
-abbrev pub bounds_named : Settings → List ℕ → Bounds
-bounds_named c name = bounds_if (find (λ r. same_name r.name name) c.queues)
 
 -- the window once this befell an item of the queue: a landing grows it, a refusal shrinks it
 abbrev pub window_now : Event → Bounds → ℕ → ℕ

@@ -1,7 +1,7 @@
 -- A shown order, by the row of its item: what it touches, and what its queue becomes.
 use Rattle.std.proofs.Common.{◌≡◌, ℕ, suc, ◌+◌, Bool, true, false, not, cond, Some, List, [], ◌∷◌, ◌++◌, map, filter}
 use Rattle.std.proofs.Common.{length, refl, sym, ap, ◌∙◌, subst, arith, true≢false}
-use Rattle.std.specs.Prelude.{◌==◌, nat_lt, option_map, unwrap_or}
+use Rattle.std.specs.Prelude.{◌==◌, find, nat_lt, option_map, unwrap_or}
 use Rattle.std.proofs.lemmas.Bool.{ne_eqb, le-ltb, eqb-true, false_from_ne_true}
 use Rattle.gate_types.specs.declared.records.Change.{Change}
 use Rattle.gate_types.specs.declared.records.Ready.{Ready}
@@ -18,7 +18,7 @@ use Rattle.gate_types.specs.declared.deliveries.Reply.TheVariants as reply
 use Rattle.gate_types.specs.Names.{same_name}
 use Rattle.gate_types.specs.Settings.{Settings, are_sound}
 use Rattle.gate_types.specs.State.{Item, Queue, State, put_by, put_change, put_plan, change_queue, known_change}
-use Rattle.gate_types.specs.Window.{grow, shrink, bounds_of}
+use Rattle.gate_types.specs.Window.{Bounds, grow, shrink, bounds_of}
 use Rattle.gate_types.specs.Admit.{without_ready}
 use Rattle.gate_types.specs.SubmitOrder.{Order, orders}
 use Rattle.gate_types.specs.Rows.{item_of}
@@ -35,12 +35,13 @@ use Rattle.gate_laws.proofs.Alone.{name_alone, same_name_of, queued_unready}
 use Rattle.gate_laws.proofs.OrderFacts.{shows}
 use Rattle.gate_laws.proofs.RecordedChange.{known_number}
 use Rattle.gate_reads.specs.Moves.{Columns, in_state, Moves}
-use Rattle.gate_reads.specs.Touches.{Touches}
+use Rattle.gate_reads.specs.declared.touched.QueueFigures.{QueueFigures}
+use Rattle.gate_reads.specs.Touches.{AreFigures, Touches}
 use Rattle.gate_reads.specs.declared.touched.Event.TheVariants as event
 use Rattle.gate_queue_rules.specs.Edits.{window_edits}
 use Rattle.gate_ruling.specs.Guards.{HasOrder}
 use Rattle.gate_ruling.specs.Landing.{landing_of, landing_edits}
-use Rattle.gate_reads.specs.Windows.{bounds_named}
+use Rattle.gate_reads.specs.Windows.{bounds_if}
 use Rattle.gate_ruling.proofs.Folded.{shown, shown_after, by_parts}
 use Rattle.gate_ruling.proofs.Stored.{Stored}
 
@@ -52,23 +53,28 @@ serial_is c s number k h =
     ap (λ (i : Item). i.serial == number) h.row.item
     ∙ (found (λ (o : Order). o.item.serial == number) (orders c s) h.order h.shown).1
 
-pub landed_touches : (c : Settings) (s : State) (number : ℕ) (k : QueuedItem) → HasOrder c s number k →
-    Touches c s (delivery.Landed number) (Some (record { queue = k.queue; item = k.item; event = event.Landed }))
-landed_touches c s number k h = record {
+pub landed_touches : (c : Settings) (s : State) (number : ℕ) (k : QueuedItem) (f : QueueFigures) →
+    HasOrder c s number k → AreFigures s k.queue f →
+    Touches c s (delivery.Landed number)
+    (Some (record { queue = k.queue; item = k.item; event = event.Landed; figures = f }))
+landed_touches c s number k f h figures = record {
   queue = ap (option_map (λ o. o.queue.name)) h.shown ∙ ap Some (sym h.row.queue);
   there = h.row.stored;
   on = serial_is c s number k h;
   event = refl;
+  figures = figures;
 }
 
-pub refused_touches : (c : Settings) (s : State) (number : ℕ) (k : QueuedItem) → HasOrder c s number k →
+pub refused_touches : (c : Settings) (s : State) (number : ℕ) (k : QueuedItem) (f : QueueFigures) →
+    HasOrder c s number k → AreFigures s k.queue f →
     Touches c s (delivery.Refused number)
-    (Some (record { queue = k.queue; item = k.item; event = event.Left verdict.Refused }))
-refused_touches c s number k h = record {
+    (Some (record { queue = k.queue; item = k.item; event = event.Left verdict.Refused; figures = f }))
+refused_touches c s number k f h figures = record {
   queue = ap (option_map (λ o. o.queue.name)) h.shown ∙ ap Some (sym h.row.queue);
   there = h.row.stored;
   on = serial_is c s number k h;
   event = refl;
+  figures = figures;
 }
 
 -- the order's queue is that of the row
@@ -139,6 +145,10 @@ refused_raw c s number k h =
     h.goes (refusing c s)
     ∙ (λ i. accepted reply.Removed (change_queue (sym h.row.queue i) (shrunk_queue c)
     (leave verdict.Refused (sym h.row.item i).change s)))
+
+-- what the settings say of the window of the queue of a name
+abbrev pub bounds_named : Settings → List ℕ → Bounds
+bounds_named c name = bounds_if (find (λ r. same_name r.name name) c.queues)
 
 -- its window is set, where it isn't so small already
 pub shrinks : (c : Settings) (x : Content) (k : QueuedItem) → are_sound c ≡ true → IsSound c x.state →

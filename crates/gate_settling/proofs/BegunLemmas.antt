@@ -37,8 +37,8 @@ use Rattle.gate_laws.proofs.Alone.{same_name_of}
 use Rattle.gate_laws.proofs.Drawn.{item_drawn, report_drawn}
 use Rattle.gate_laws.proofs.FewRows.{few_numbers}
 use Rattle.gate_settling.specs.Touching.{Touching, delivered}
-use Rattle.gate_settling.specs.Rows.{is_out, has_landed, taken_out, reports_now}
-use Rattle.gate_settling.proofs.LeftLemmas.{left}
+use Rattle.gate_settling.specs.Rows.{is_out, has_landed, taken_out}
+use Rattle.gate_settling.proofs.LeftLemmas.{left, reports_now}
 use Rattle.gate_settling.proofs.StandingLemmas.{queue_there, item_there, item_from_1, report_from_1, queue_is}
 use Rattle.gate_settling.proofs.StandingLemmas.{touched_row}
 use Rattle.gate_types.specs.Counters.{last_number}

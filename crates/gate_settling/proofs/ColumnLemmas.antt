@@ -18,7 +18,7 @@ use Rattle.gate_types.specs.Once.{Content}
 use Rattle.gate_types.specs.Tables.{tables, queue_rows}
 use Rattle.gate_types.specs.Rising.{In}
 use Rattle.gate_laws.specs.Touch.{touched_by, is_other}
-use Rattle.gate_reads.specs.Moves.{Columns, columns_at, columns_of, row_by, swept, tables_by}
+use Rattle.gate_reads.specs.Moves.{Columns, columns_at, row_by, swept, tables_by}
 use Rattle.gate_laws.proofs.Members.{from_map, to_map, to_flat, found, not_found, contains_in, in_contains}
 use Rattle.gate_laws.proofs.Counts.{one_of}
 use Rattle.gate_laws.proofs.Alone.{name_alone, same_name_of}
@@ -27,6 +27,12 @@ use Rattle.gate_laws.proofs.RunIsLawful.{raw_step_is_sound}
 use Rattle.gate_laws.proofs.RebaseIsSound.{rebase_is_sound}
 use Rattle.gate_laws.proofs.SweepIsSound.{sweep_is_sound}
 use Rattle.gate_laws.proofs.OtherQueuesStay.{other_queues_stay}
+
+-- the columns of a state, by serial
+abbrev pub columns_of : Settings → State → ℕ → Columns
+columns_of c s n =
+    option_map_or (columns_at s.builds) (find (λ p. p.item.serial == n) (all_places c s))
+    (record { ahead = None; failing = false })
 
 -- the rows of a queue's items are those by these columns
 abbrev pub HasColumns : Settings → State → (ℕ → Columns) → Queue → Type 0

@@ -1,7 +1,7 @@
 -- What a delivery has left of the touched queue, of the rows of its items, of their needs, jobs and builds.
 use Rattle.std.proofs.Common.{◌≡◌, ℕ, suc, ◌+◌, ◌<◌, ◌≤◌, Bool, false, not, ◌&&◌, ◌||◌, cond, Some, List, [], ◌∷◌}
 use Rattle.std.proofs.Common.{◌++◌, map, length, inl, inr, refl, sym, ap, ◌∙◌, subst, arith}
-use Rattle.std.specs.Prelude.{◌==◌, filter}
+use Rattle.std.specs.Prelude.{◌==◌, if◌then◌else◌, filter}
 use Rattle.std.proofs.lemmas.Bool.{eq-eqb, ne_eqb}
 use Rattle.std.proofs.lemmas.Option.{same_Some, none-some}
 use Rattle.std.proofs.lemmas.List.{map-id, map-append, length-append, length-map}
@@ -26,7 +26,7 @@ use Rattle.gate_laws.specs.Touch.{has_serial}
 use Rattle.gate_walk.specs.Rescan.{HasLeft, HasLanded, live_under, place_behind, without_row}
 use Rattle.gate_walk.specs.Kinds.{IsIn}
 use Rattle.gate_walk.specs.Delivery.{Touch, build_ended, item_left, item_landed, moved, touch_of, standing_rows}
-use Rattle.gate_reads.specs.Moves.{Columns, columns_of, row_by}
+use Rattle.gate_reads.specs.Moves.{Columns, row_by}
 use Rattle.gate_reads.specs.Touches.{event_of}
 use Rattle.gate_reads.specs.Windows.{window_now}
 use Rattle.gate_reads.specs.declared.touched.TouchedItem.{TouchedItem}
@@ -39,8 +39,8 @@ use Rattle.gate_walk.proofs.Parting.{rise_at}
 use Rattle.gate_types.specs.Once.{Content}
 use Rattle.gate_types.specs.Rising.{RisesFrom, In}
 use Rattle.gate_settling.specs.Touching.{Touching}
-use Rattle.gate_settling.specs.Rows.{has_landed, reports_now, build_now}
-use Rattle.gate_settling.proofs.ColumnLemmas.{columns_found}
+use Rattle.gate_settling.specs.Rows.{is_out, has_landed, build_now}
+use Rattle.gate_settling.proofs.ColumnLemmas.{columns_of, columns_found}
 use Rattle.gate_settling.proofs.SeamLemmas.{no_drop}
 use Rattle.gate_settling.proofs.ListLemmas.{or_false, each_same}
 use Rattle.gate_settling.proofs.BuildLemmas.{live_elsewhere, live_ended}
@@ -49,6 +49,10 @@ use Rattle.gate_settling.proofs.LeavesLemmas.{Leaves, leaves}
 -- a need once the delivery is done
 abbrev pub need_after : Event → ℕ → Need → Need
 need_after e n m = record { change = m.change; landed = m.landed || has_landed e && n == m.change }
+
+-- how many reports a queue then has
+abbrev pub reports_now : Event → ℕ → ℕ
+reports_now e n = if is_out e then n + 1 else n
 
 -- what is left: the rows of the items that stand, with what a visit sees of each; the reports; the window
 pub record Left (c : Settings) (s t : State) (k : Touch) (q o : Queue) (i : Item) (e : Event) : Type 0 where

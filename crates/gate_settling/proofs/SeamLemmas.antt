@@ -26,12 +26,12 @@ use Rattle.gate_types.proofs.NameLemmas.{same_name_is}
 use Rattle.gate_laws.specs.Touch.{has_serial, rebase_one, settle_one}
 use Rattle.gate_queue_rules.specs.Settled.{swept_of, rows_in}
 use Rattle.gate_walk.specs.Rescan.{rows_with}
-use Rattle.gate_reads.specs.Moves.{Columns, row_by, tables_by, columns_of, swept, in_state, Moves}
+use Rattle.gate_reads.specs.Moves.{Columns, row_by, tables_by, swept, in_state, Moves}
 use Rattle.gate_laws.proofs.Members.{map_map}
 use Rattle.gate_laws.proofs.Elements.{rest_of}
 use Rattle.gate_laws.proofs.TableParts.{all_parts}
 use Rattle.gate_settling.proofs.ListLemmas.{first_or}
-use Rattle.gate_settling.proofs.ColumnLemmas.{HasColumns}
+use Rattle.gate_settling.proofs.ColumnLemmas.{HasColumns, columns_of}
 
 -- ---- the fold of edits acts on each part of a queue by itself
 

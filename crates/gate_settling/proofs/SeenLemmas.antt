@@ -9,24 +9,25 @@ use Rattle.gate_types.specs.declared.records.Need.{Need}
 use Rattle.gate_types.specs.declared.records.Stage.TheVariants as stage
 use Rattle.gate_types.specs.Names.{same_name}
 use Rattle.gate_types.specs.Settings.{Settings}
-use Rattle.gate_types.specs.State.{Item, Queue, State, known_change, known_or_closed, change_of, is_landed}
+use Rattle.gate_types.specs.State.{Item, Queue, State, known_change, known_or_closed, change_of, is_landed, plan_of}
 use Rattle.gate_types.specs.Standing.{needs_of}
 use Rattle.gate_types.specs.Rows.{item_of, item_rows}
 use Rattle.gate_types.specs.Once.{Content}
 use Rattle.gate_types.specs.Rising.{In}
 use Rattle.gate_types.proofs.NameLemmas.{same_name_is}
+use Rattle.gate_walk.specs.Walk.{Seen}
 use Rattle.gate_walk.specs.Rescan.{standing_in, need_seen}
 use Rattle.gate_walk.specs.Delivery.{moved}
 use Rattle.gate_walk.specs.UnderWay.{stale_rows}
-use Rattle.gate_book_trait.specs.Reads.{queued_items, queued_of}
+use Rattle.gate_book_trait.specs.Reads.{queued_items, queued_of, live_builds}
 use Rattle.gate_book_trait.specs.declared.rows.QueuedItem.{QueuedItem}
-use Rattle.gate_reads.specs.Moves.{columns_of, row_by}
+use Rattle.gate_reads.specs.Moves.{row_by}
 use Rattle.gate_reads.specs.declared.touched.TouchedItem.{TouchedItem}
 use Rattle.gate_laws.proofs.Members.{from_map, to_map, map_map, map_same, from_flat, to_flat, found, not_found}
 use Rattle.gate_laws.proofs.Alone.{change_alone, name_alone, same_name_of}
 use Rattle.gate_settling.specs.Touching.{Touching, delivered, sees}
-use Rattle.gate_settling.specs.Rows.{has_landed, stands_still, standing_by, need_now, needs_known, row_now}
-use Rattle.gate_settling.proofs.ColumnLemmas.{columns_found, found_alone}
+use Rattle.gate_settling.specs.Rows.{has_landed, stands_still, standing_by, need_now, needs_known, build_now}
+use Rattle.gate_settling.proofs.ColumnLemmas.{columns_of, columns_found, found_alone}
 use Rattle.gate_settling.proofs.LeftLemmas.{need_after, left}
 use Rattle.gate_settling.proofs.StandingLemmas.{queue_there, stands, stale_in, in_stale}
 
@@ -153,6 +154,16 @@ need_is {x = x} {k = k} h n = λ t. record {
   change = n;
   landed = sym (landed_is n (known_change x.state n)) t || has_landed k.event && k.item.change == n;
   standing = standing_is h n t;
+}
+
+-- a row as a visit sees it
+abbrev pub row_now : Settings → State → TouchedItem → ItemRow → Seen
+row_now c s k r = record {
+  row = r;
+  needs = map (need_now c s k) (needs_known (known_change s r.change));
+  jobs = (plan_of s r.serial).jobs;
+  fast = (plan_of s r.serial).fast;
+  builds = map (build_now k.event) (live_builds s r.serial);
 }
 
 item_seen : {c : Settings} {x : Content} {k : TouchedItem} (h : Touching c x k) (j : Item) →

@@ -22,7 +22,7 @@ use Rattle.gate_types.proofs.NameLemmas.{same_name_is}
 use Rattle.gate_walk.specs.Delivery.{touch_of, standing_rows}
 use Rattle.gate_walk.specs.UnderWay.{stale_rows}
 use Rattle.gate_book_trait.specs.Reads.{queue_named, items_in}
-use Rattle.gate_reads.specs.Moves.{columns_of, row_by}
+use Rattle.gate_reads.specs.Moves.{row_by}
 use Rattle.gate_reads.specs.Touches.{event_of}
 use Rattle.gate_reads.specs.declared.touched.Event.{Event}
 use Rattle.gate_reads.specs.declared.touched.TouchedItem.{TouchedItem}
@@ -31,7 +31,7 @@ use Rattle.gate_laws.proofs.Members.{found, not_found, contains_in}
 use Rattle.gate_laws.proofs.Alone.{serial_alone, name_alone, same_name_of}
 use Rattle.gate_settling.specs.Touching.{Touching, delivered}
 use Rattle.gate_settling.specs.Rows.{is_out}
-use Rattle.gate_settling.proofs.ColumnLemmas.{columns_found, found_alone}
+use Rattle.gate_settling.proofs.ColumnLemmas.{columns_of, columns_found, found_alone}
 
 -- ---- the touched queue
 

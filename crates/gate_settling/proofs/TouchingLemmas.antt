@@ -16,14 +16,14 @@ use Rattle.gate_types.specs.Forms.{IsLawfulContent}
 use Rattle.gate_types.specs.Tables.{tables, fold_all, Leads}
 use Rattle.gate_types.specs.Rising.{In}
 use Rattle.gate_laws.specs.Touch.{touched_by, is_stale}
-use Rattle.gate_reads.specs.Moves.{columns_of, row_by, tables_by, swept, in_state, Moves}
+use Rattle.gate_reads.specs.Moves.{row_by, tables_by, swept, in_state, Moves}
 use Rattle.gate_reads.specs.Touches.{IsTouched}
 use Rattle.gate_reads.specs.declared.touched.TouchedItem.{TouchedItem}
 use Rattle.gate_laws.proofs.Members.{from_map, to_right, in_split, contains_in}
 use Rattle.gate_walk.proofs.TouchedQueue.{has_touched}
 use Rattle.gate_walk.proofs.Deliveries.{a_walk_is_enough}
 use Rattle.gate_settling.specs.Touching.{Touching, AreToldOf}
-use Rattle.gate_settling.proofs.ColumnLemmas.{columns_found, tables_are_by, tables_by_own, others_stay}
+use Rattle.gate_settling.proofs.ColumnLemmas.{columns_of, columns_found, tables_are_by, tables_by_own, others_stay}
 use Rattle.gate_settling.proofs.SeamLemmas.{settled_queue_leads}
 use Rattle.gate_settling.proofs.StandingLemmas.{queue_of_name}
 use Rattle.gate_settling.proofs.WalkLemmas.{settles_one}
@@ -65,6 +65,7 @@ touching c x d r t k w lawful e acts touches =
         named = a.named;
         stored = stored;
         event = touches.event;
+        figures = touches.figures;
       },
       refl,
     )

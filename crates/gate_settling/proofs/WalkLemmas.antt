@@ -31,7 +31,7 @@ use Rattle.gate_walk.specs.Walk.{Seen, Carry, Walk, is_same_row, row_by as row_o
 use Rattle.gate_walk.specs.Walk.{stopped_by, window_edits_by, visit_edits}
 use Rattle.gate_walk.specs.Rescan.{rows_with}
 use Rattle.gate_walk.specs.UnderWay.{Delivered, queue_after, stale_rows, rows_seen, walk_by, next_by, AreWanted}
-use Rattle.gate_reads.specs.Moves.{Columns, columns_of, row_by, swept}
+use Rattle.gate_reads.specs.Moves.{Columns, row_by, swept}
 use Rattle.gate_reads.specs.declared.touched.TouchedItem.{TouchedItem}
 use Rattle.gate_laws.proofs.Members.{every, from_map, to_map, from_flat, any_from, any_to, all_to, contains_in}
 use Rattle.gate_laws.proofs.Counts.{distinct_from}
@@ -45,7 +45,7 @@ use Rattle.gate_laws.proofs.RunIsLawful.{raw_step_is_sound}
 use Rattle.gate_laws.proofs.OnlyOneQueueIsTouched.{only_one_queue_is_touched}
 use Rattle.gate_walk.proofs.UnderWay.{walked}
 use Rattle.gate_settling.specs.Touching.{Touching, delivered, sees, IsWalked}
-use Rattle.gate_settling.proofs.ColumnLemmas.{others_stay}
+use Rattle.gate_settling.proofs.ColumnLemmas.{columns_of, others_stay}
 use Rattle.gate_settling.proofs.ListLemmas.{each_same}
 use Rattle.gate_settling.proofs.SeamLemmas.{is_of, is_own, row_parts, one_of, SettlesRows, OthersStay, SettlesOne}
 use Rattle.gate_settling.proofs.LeftLemmas.{left}

@@ -4,7 +4,8 @@ use Rattle.std.proofs.Common.{◌∷◌, inl, inr, refl, sym, ap, ◌∙◌, sub
 use Rattle.std.specs.Prelude.{◌==◌, nat_lt, nat_le, find, option_map, IfSome}
 use Rattle.std.specs.List.{list_any}
 use Rattle.std.specs.Option.{option_map_or}
-use Rattle.std.proofs.lemmas.Bool.{and_parts, and_from, eq-eqb, ne_eqb, lt-ltb, ltb-true, ltb-false, le-leb, leb-true}
+use Rattle.std.proofs.lemmas.Bool.{and_parts, and_from, eq-eqb, ne_eqb, lt-ltb, le-ltb, ltb-true, ltb-false, le-leb}
+use Rattle.std.proofs.lemmas.Bool.{leb-true}
 use Rattle.gate_types.specs.declared.records.Item.{Item as ItemRow}
 use Rattle.gate_types.specs.Settings.{Settings}
 use Rattle.gate_types.specs.State.{Queue, State, known_change}
@@ -18,16 +19,16 @@ use Rattle.gate_walk.specs.declared.walk.Next.TheVariants as code
 use Rattle.gate_walk.specs.Walk.{SeenNeed, Seen, Walk, is_gone, needs_gone}
 use Rattle.gate_walk.specs.Next.{Next, from, go, need, stop, wanted}
 use Rattle.gate_walk.specs.Views.{next_of_code}
-use Rattle.gate_walk.specs.UnderWay.{stale_rows, rows_seen, next_by, row_wanted, Starts, GoesOn}
+use Rattle.gate_walk.specs.UnderWay.{stale_rows, rows_seen, next_by, row_wanted, HasVisited, Starts, GoesOn}
 use Rattle.gate_book_trait.specs.Reads.{queue_named, items_in, first_above}
 use Rattle.gate_reads.specs.declared.touched.TouchedItem.{TouchedItem}
-use Rattle.gate_laws.proofs.Members.{every, from_map, found, any_map}
+use Rattle.gate_laws.proofs.Members.{every, from_map, found, any_map, contains_in}
 use Rattle.gate_laws.proofs.Parts.{ItemsRise}
 use Rattle.gate_laws.proofs.Tests.{not_and_false}
 use Rattle.gate_book_trait.proofs.Finding.{find_map}
 use Rattle.gate_queue_rules.proofs.Ordered.{row_serial, rises, items_rise}
 use Rattle.gate_walk.proofs.Visits.{stored_rise}
-use Rattle.gate_settling.specs.Touching.{Touching, delivered, sees, IsUnderWay}
+use Rattle.gate_settling.specs.Touching.{Touching, delivered, sees}
 use Rattle.gate_settling.specs.Rows.{is_out, need_now, needs_known, first_behind, is_needing, row_for, IsFrom, IsAbove}
 use Rattle.gate_settling.proofs.ListLemmas.{find_same, find_kept, any_swapped}
 use Rattle.gate_settling.proofs.StandingLemmas.{items_are, serial_is_drawn, stands, stale_are, in_stale}
@@ -149,6 +150,13 @@ row_stale h vs r e =
 
 -- ---- a walk under way
 
+-- a walk has made its visits so far, and this is the row that it reads next
+pub record IsUnderWay {c : Settings} {x : Content} {k : TouchedItem} (h : Touching c x k) (w : Walk)
+    (row : Option ItemRow) : Type 0 where
+  pub visits : List Seen
+  pub visited : HasVisited (delivered h) w visits
+  pub wanted : row_wanted (delivered h) visits ≡ option_map (sees h) row
+
 pub starts_under_way : {c : Settings} {x : Content} {k : TouchedItem} (h : Touching c x k) (w : Walk)
     (row : Option ItemRow) → Starts (delivered h) w →
     row ≡ first_above (first_behind k) (items_in c x.state k.queue) → IsUnderWay h w row
@@ -195,6 +203,28 @@ items_in_rise c s sound name = by_queue (queue_named s name) refl
         let there = found _ s.queues q e in
         stored_rise c s q (items_rise c s q q.items 0
         (rises (λ j. j.serial) q.items (every ItemsRise s.queues sound.items_rise q there.0)))
+
+-- of rows that rise, the first from a row's serial on is this row
+first_from : (n : ℕ) (rows : List ItemRow) → RisesFrom row_serial n rows → (r : ItemRow) → In r rows → 1 ≤ r.serial →
+    first_above (r.serial - 1) rows ≡ Some r
+first_from n [] h r m one = absurd m
+first_from n (y ∷ rows) h r (inl e) one =
+    let same = ap (λ (z : ItemRow). z.serial) e in
+    ap (λ b. cond b (Some y) (first_above (r.serial - 1) rows))
+    (lt-ltb (r.serial - 1) y.serial (omega (arith, same, one))) ∙ ap Some e
+first_from n (y ∷ rows) h r (inr m) one =
+    let more : suc y.serial ≤ r.serial = low_in (suc y.serial) rows h.1 r m in
+    ap (λ b. cond b (Some y) (first_above (r.serial - 1) rows))
+    (le-ltb (r.serial - 1) y.serial (omega (arith, more))) ∙ first_from (suc y.serial) rows h.1 r m one
+
+-- so the touched item, where it still stands, is the first row that a walk reads
+pub touched_first : {c : Settings} {x : Content} {k : TouchedItem} (h : Touching c x k) → is_out k.event ≡ false →
+    Some k.item ≡ first_above (first_behind k) (items_in c x.state k.queue)
+touched_first {c = c} {x = x} {k = k} h inside =
+    let items = items_in c x.state k.queue in
+    let there = subst (In k.item) (sym (items_are h)) (contains_in (item_rows c x.state h.queue) k.item h.stored) in
+    sym (ap (λ b. first_above (cond b k.item.serial (k.item.serial - 1)) items) inside
+    ∙ first_from 0 items (items_in_rise c x.state h.lawful.lawful.sound k.queue) k.item there (serial_is_drawn h))
 
 -- ---- serials rise
 

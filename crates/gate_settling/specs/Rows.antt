@@ -1,6 +1,6 @@
 -- What is read by key of the rows that a walk asks for, with what the delivery makes of it.
-use Rattle.std.specs.Prelude.{ℕ, Bool, true, false, ◌&&◌, ◌||◌, not, ◌==◌, nat_lt, ◌≡◌, ◌<◌, ◌≤◌, ◌+◌, ◌-◌}
-use Rattle.std.specs.Prelude.{if◌then◌else◌, List, [], ◌∷◌, map, filter, take, length, Option, Some, None, find}
+use Rattle.std.specs.Prelude.{ℕ, Bool, true, false, ◌&&◌, ◌||◌, not, ◌==◌, nat_lt, ◌≡◌, ◌<◌, ◌≤◌, ◌-◌}
+use Rattle.std.specs.Prelude.{if◌then◌else◌, List, [], ◌∷◌, filter, take, length, Option, Some, None, find}
 use Rattle.std.specs.List.{list_any}
 use Rattle.std.specs.Option.{option_map_or}
 use Rattle.gate_types.specs.declared.records.Change.{Change}
@@ -8,13 +8,13 @@ use Rattle.gate_types.specs.declared.records.Item.{Item as ItemRow}
 use Rattle.gate_types.specs.declared.records.Build.{Build}
 use Rattle.gate_types.specs.Names.{same_name}
 use Rattle.gate_types.specs.Settings.{Settings}
-use Rattle.gate_types.specs.State.{State, known_change, known_or_closed, change_of, is_landed, plan_of}
+use Rattle.gate_types.specs.State.{State, known_change, known_or_closed, change_of, is_landed}
 use Rattle.gate_types.specs.Step.{with_ending}
 use Rattle.gate_walk.specs.declared.walk.Next.{Next}
 use Rattle.gate_walk.specs.declared.walk.Next.TheVariants as next
-use Rattle.gate_walk.specs.Walk.{SeenNeed, Seen}
+use Rattle.gate_walk.specs.Walk.{SeenNeed}
 use Rattle.gate_walk.specs.Rescan.{TakenOut}
-use Rattle.gate_book_trait.specs.Reads.{items_in, queued_of, first_above, live_builds}
+use Rattle.gate_book_trait.specs.Reads.{items_in, queued_of, first_above}
 use Rattle.gate_book_trait.specs.declared.rows.QueuedItem.{QueuedItem}
 use Rattle.gate_reads.specs.declared.touched.Event.{Event}
 use Rattle.gate_reads.specs.declared.touched.Event.TheVariants as event
@@ -38,10 +38,6 @@ has_landed event.Landed = true
 abbrev pub taken_out : TouchedItem → Option TakenOut
 taken_out k = if is_out k.event
     then Some (record { change = k.item.change; failing = k.item.failing; landed = has_landed k.event }) else None
-
--- how many reports a queue then has
-abbrev pub reports_now : Event → ℕ → ℕ
-reports_now e n = if is_out e then n + 1 else n
 
 -- ---- a row
 
@@ -71,16 +67,6 @@ needs_known known = option_map_or (λ j. j.needs) known []
 abbrev pub build_now : Event → Build → Build
 build_now (event.Ended n e) b = if b.number == n then with_ending e b else b
 build_now _ b = b
-
--- a row as a visit sees it
-abbrev pub row_now : Settings → State → TouchedItem → ItemRow → Seen
-row_now c s k r = record {
-  row = r;
-  needs = map (need_now c s k) (needs_known (known_change s r.change));
-  jobs = (plan_of s r.serial).jobs;
-  fast = (plan_of s r.serial).fast;
-  builds = map (build_now k.event) (live_builds s r.serial);
-}
 
 -- ---- the row that is wanted
 

@@ -1,5 +1,5 @@
 -- An accepted delivery under way, and the item that it touched, as it stood in its queue.
-use Rattle.std.specs.Prelude.{true, false, ◌≡◌, List, ◌∷◌, ◌++◌, Option, Some, option_map, Contains}
+use Rattle.std.specs.Prelude.{true, false, ◌≡◌, List, ◌∷◌, ◌++◌, Some, Contains}
 use Rattle.gate_types.specs.declared.records.Item.{Item as ItemRow}
 use Rattle.gate_types.specs.declared.edits.Edit.{Edit}
 use Rattle.gate_types.specs.declared.deliveries.Delivery.{Delivery}
@@ -13,9 +13,9 @@ use Rattle.gate_types.specs.Forms.{IsLawfulContent}
 use Rattle.gate_walk.specs.Walk.{Seen, Walk}
 use Rattle.gate_walk.specs.Rescan.{row_seen}
 use Rattle.gate_laws.specs.Touch.{is_on, is_stale}
-use Rattle.gate_walk.specs.UnderWay.{Delivered, HasVisited, row_wanted, stale_rows, rows_walked, tables_settled}
+use Rattle.gate_walk.specs.UnderWay.{Delivered, HasVisited, stale_rows, rows_walked, tables_settled}
 use Rattle.gate_reads.specs.declared.touched.TouchedItem.{TouchedItem}
-use Rattle.gate_reads.specs.Touches.{event_of}
+use Rattle.gate_reads.specs.Touches.{event_of, AreFigures}
 
 -- a delivery that is accepted and not stale, on this item of a lawful content
 pub record Touching (c : Settings) (x : Content) (k : TouchedItem) : Type 0 where
@@ -37,6 +37,7 @@ pub record Touching (c : Settings) (x : Content) (k : TouchedItem) : Type 0 wher
   pub named : queue.name ≡ k.queue
   pub stored : Contains (item_rows c x.state queue) k.item
   pub event : event_of delivery ≡ Some k.event
+  pub figures : AreFigures x.state k.queue k.figures
 
 -- the same, as a walk is told of it
 abbrev pub delivered : {c : Settings} → {x : Content} → {k : TouchedItem} → Touching c x k → Delivered
@@ -64,13 +65,6 @@ delivered {c = c} {x = x} {k = k} h = record {
 -- a row as a visit is to see it
 abbrev pub sees : {c : Settings} → {x : Content} → {k : TouchedItem} → Touching c x k → ItemRow → Seen
 sees {c = c} h r = row_seen c h.after (stale_rows (delivered h)) r
-
--- a walk has made its visits so far, and this is the row that it reads next
-pub record IsUnderWay {c : Settings} {x : Content} {k : TouchedItem} (h : Touching c x k) (w : Walk)
-    (row : Option ItemRow) : Type 0 where
-  pub visits : List Seen
-  pub visited : HasVisited (delivered h) w visits
-  pub wanted : row_wanted (delivered h) visits ≡ option_map (sees h) row
 
 -- a walk has made its visits, and its edits settle the queue
 pub record IsWalked {c : Settings} {x : Content} {k : TouchedItem} (h : Touching c x k) (w : Walk) : Type 0 where

@@ -4,7 +4,6 @@ use Rattle.std.specs.Option.{option_map_or}
 use Rattle.gate_types.specs.declared.config.Queue.{Queue as QueueSetting}
 use Rattle.gate_types.specs.Names.{same_name}
 use Rattle.gate_types.specs.Settings.{Settings}
-use Rattle.gate_types.specs.State.{Queue}
 use Rattle.gate_types.specs.Once.{Content}
 use Rattle.gate_types.specs.Adopt.{keeps_window, adopted_content}
 use Rattle.gate_types.specs.Tables.{QueueRows, Tables, tables}
@@ -30,10 +29,6 @@ adopted_rows c queues r =
 -- the queues in the order of the other settings; all else stays
 abbrev pub adopted_tables : Settings → Settings → Tables → Tables
 adopted_tables c d t = record t { queues = map (adopted_rows c t.queues) d.queues }
-
--- the queues of a content are those of the settings
-abbrev pub HasItsQueues : Settings → Content → Type 0
-HasItsQueues c x = map (λ (q : Queue). q.name) x.state.queues ≡ map (λ (q : QueueSetting). q.name) c.queues
 
 -- the tables of an adopted content are the adopted tables; and no settings are needed to work tables out
 pub record TablesAreAdopted : Type 0 where

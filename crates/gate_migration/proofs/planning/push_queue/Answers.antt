@@ -7,7 +7,8 @@ use Rattle.gate_queue_queries.specs.First.{HoldsLandings, pair_shown}
 use Rattle.gate_found_rows.specs.Reads.{IsOnlyRead}
 use Rattle.gate_queue_queries.proofs.FirstReads.{first_still}
 use Rattle.gate_found_rows.proofs.ReadLemmas.{only_read_then}
-use Rattle.gate_migration.specs.Migrates.{pair_of_item, pair_of_landing, pair_of_row}
+use Rattle.gate_migration.specs.Migrates.{pair_of_item, pair_of_row}
+use Rattle.gate_migration.proofs.PlanningLemmas.{pair_of_landing}
 use Rattle.gate_migration.proofs.PlanningLemmas.{queue_pushed}
 use Rattle.gate_migration.proofs.planning.push_queue.Goals as goal
 

@@ -19,7 +19,7 @@ pub loop-next-init : goal.loop-next-init
 loop-next-init g c = record {
   kept = c.in_ok-next.ensures.kept;
   under_way = λ trusted x holds lawful h starts. (
-    starts_under_way h c.args.begun c.in_ok-next.next starts (c.in_ok-next.ensures.row trusted _ x holds lawful),
+    starts_under_way h c.args.begun c.in_ok-next.next starts (c.in_ok-next.ensures.row trusted _ x holds lawful h),
     nothing_kept x.state c.args.begun.carry.gone (items_in c.args.config.now x.state c.args.touched.now.queue)
         c.none-needing.result.rows.items c.none-needing.result.asked c.in_ok-next.next c.none-needing.ensures.rows
         c.none-needing.ensures.asked,

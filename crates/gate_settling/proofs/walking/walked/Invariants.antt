@@ -5,7 +5,8 @@ use Rattle.gate_walk.specs.UnderWay.{Starts}
 use Rattle.gate_book_trait.specs.Kept.{OfHeldUnder, IsKept}
 use Rattle.gate_book_trait.specs.Reads.{items_in}
 use Rattle.gate_settling.specs.Rows.{AreKept}
-use Rattle.gate_settling.specs.Touching.{Touching, delivered, IsUnderWay}
+use Rattle.gate_settling.specs.Touching.{Touching, delivered}
+use Rattle.gate_settling.proofs.WantedLemmas.{IsUnderWay}
 use Rattle.gate_settling.proofs.walking.walked.Given as goal
 
 abbrev pub invariant-loop-next : goal.invariant-loop-next
