@@ -1,137 +1,565 @@
--- A put of a change that a later one replaces changes nothing.
-use Rattle.std.proofs.Common.{◌≡◌, ℕ, Bool, true, false, not, cond, List, [], ◌∷◌, ◌++◌, reverse, refl, sym, ap}
-use Rattle.std.proofs.Common.{◌∙◌, arith, true≢false}
-use Rattle.std.specs.Prelude.{◌==◌, ◌||◌}
+-- Puts of a change that change nothing: a later one replaces them, or they put the row that stands.
+use Rattle.std.proofs.Common.{◌≡◌, ℕ, Bool, true, false, not, cond, Option, Some, None, List, [], ◌∷◌, ◌++◌, reverse}
+use Rattle.std.proofs.Common.{map, refl, sym, ap, subst, ◌∙◌, arith, inl, inr, true≢false}
+use Rattle.std.specs.Prelude.{◌==◌, ◌||◌, ◌⊎◌, find, fold, option_map}
 use Rattle.std.specs.List.{list_any}
+use Rattle.std.specs.Option.{option_map_or}
 use Rattle.std.specs.BTreeSet.{BTreeSet}
-use Rattle.std.proofs.lemmas.Bool.{eqb-true}
+use Rattle.std.proofs.lemmas.Bool.{eqb-true, eq-eqb, or_parts}
+use Rattle.std.proofs.lemmas.Option.{same_Some}
 use Rattle.std.proofs.lemmas.List.{map-id, append_assoc}
 use Rattle.std.proofs.lemmas.Grind.{reverse_onto}
+use Rattle.gate_types.specs.declared.records.Change.{Change}
+use Rattle.gate_types.specs.declared.records.Ready.{Ready}
 use Rattle.gate_types.specs.declared.rows.ChangeRow.{ChangeRow}
+use Rattle.gate_types.specs.declared.edits.Counter.{Counter}
+use Rattle.gate_types.specs.declared.edits.Counter.TheVariants as counter
 use Rattle.gate_types.specs.declared.edits.Edit.{Edit}
 use Rattle.gate_types.specs.declared.edits.Edit.TheVariants as edit
 use Rattle.gate_types.specs.Settings.{Settings}
-use Rattle.gate_types.specs.State.{put_by}
+use Rattle.gate_types.specs.State.{State, put_by, known_change}
+use Rattle.gate_types.specs.Rebase.{rebase}
+use Rattle.gate_types.specs.Sweep.{sweep}
+use Rattle.gate_types.specs.Admit.{admit_one, may_enter, entered}
+use Rattle.gate_types.specs.Settle.{settle}
+use Rattle.gate_types.specs.Lawful.{IsSound}
 use Rattle.gate_types.specs.Once.{Content}
-use Rattle.gate_types.specs.Tables.{Tables, tables, edited_changes, edited_tables, fold_all, Leads}
+use Rattle.gate_types.specs.Tables.{Tables, tables, approval_of, change_row, edited_changes, edited_tables}
+use Rattle.gate_types.specs.Tables.{edited_counters, edited_queue, fold_all, set_counter, Leads}
+use Rattle.gate_types.specs.Rows.{edited_window}
+use Rattle.gate_types.specs.Names.{same_name}
+use Rattle.gate_types.specs.Counters.{Drawn}
+use Rattle.gate_types.proofs.NameLemmas.{same_name_is}
+use Rattle.gate_laws.proofs.Alone.{same_name_of}
 use Rattle.gate_types.specs.Keys.{number_of_change}
 use Rattle.gate_types.proofs.PutLemmas.{put_over, put_swap}
+use Rattle.gate_laws.proofs.RecordedChange.{known_number}
+use Rattle.gate_book_trait.specs.RowReads.{row_of}
+use Rattle.gate_book_trait.proofs.Finding.{find_map}
+use Rattle.gate_reads.specs.Moves.{in_state}
+use Rattle.gate_reads.specs.Raw.{MakesReady}
+use Rattle.gate_reads.specs.declared.raw.PendingReply.{PendingReply}
+use Rattle.gate_reads.specs.declared.raw.PendingReply.TheVariants as pending
+use Rattle.gate_ruling.proofs.Put.{row_known}
 use Rattle.gate_admission.specs.Candidates.{puts}
-use Rattle.gate_core.specs.Thinned.{is_replaced, thinned, AreNumbersOf}
+use Rattle.gate_admission.proofs.Rows.{find_put}
+use Rattle.gate_core.specs.Thinned.{draws, has_drawn, is_replaced, newly_ready, puts_back, sets_window, thinned}
+use Rattle.gate_core.specs.Thinned.{with_drawn, AreNumbersOf, IsNotedOf}
+use Rattle.gate_core.specs.declared.thinned.Later.{Later}
 
--- ---- puts of changes
+-- ---- edits that set the same
 
--- a put behind which the same change is put again
+-- the lists of queues after two edits of each
+twice : {X : Type 0} (f g h : X → X) → ((x : X) → f (g x) ≡ h x) → (xs : List X) → map f (map g xs) ≡ map h xs
+twice f g h e [] = refl
+twice f g h e (x ∷ xs) = λ i. e x i ∷ twice f g h e xs i
+
+swapped : {X : Type 0} (f g : X → X) → ((x : X) → f (g x) ≡ g (f x)) → (xs : List X) →
+    map f (map g xs) ≡ map g (map f xs)
+swapped f g e xs = twice f g (λ x. g (f x)) e xs ∙ sym (twice g f (λ x. g (f x)) (λ x. refl) xs)
+
+-- a row put before the same change is put
 put_again : (r : ChangeRow) (rows : List ChangeRow) (e : Edit) → puts (number_of_change r) e ≡ true →
     edited_changes (put_by number_of_change r rows) e ≡ edited_changes rows e
 put_again r rows (edit.PutChange k a) h =
     put_over number_of_change r (record { change = k; approval = a }) rows
     (sym (eqb-true k.number (number_of_change r) h))
 put_again r rows (edit.PutItem q i) h = absurd (true≢false (sym h))
-put_again r rows (edit.DropItem n) h = absurd (true≢false (sym h))
+put_again r rows (edit.DropItem m) h = absurd (true≢false (sym h))
 put_again r rows (edit.PutPlan p) h = absurd (true≢false (sym h))
-put_again r rows (edit.PutLanding q n l) h = absurd (true≢false (sym h))
-put_again r rows (edit.PutReport q n p) h = absurd (true≢false (sym h))
+put_again r rows (edit.PutLanding q m l) h = absurd (true≢false (sym h))
+put_again r rows (edit.PutReport q m p) h = absurd (true≢false (sym h))
 put_again r rows (edit.PutBuild b) h = absurd (true≢false (sym h))
-put_again r rows (edit.SetOutcome n o) h = absurd (true≢false (sym h))
-put_again r rows (edit.StopBuild n) h = absurd (true≢false (sym h))
+put_again r rows (edit.SetOutcome m o) h = absurd (true≢false (sym h))
+put_again r rows (edit.StopBuild m) h = absurd (true≢false (sym h))
 put_again r rows (edit.SetWindow q w) h = absurd (true≢false (sym h))
-put_again r rows (edit.SetCounter k n) h = absurd (true≢false (sym h))
+put_again r rows (edit.SetCounter k m) h = absurd (true≢false (sym h))
 put_again r rows (edit.Keep k) h = absurd (true≢false (sym h))
 
--- and one behind which another edit is made
+-- and one before another edit is made
 put_before : (r : ChangeRow) (rows : List ChangeRow) (e : Edit) → puts (number_of_change r) e ≡ false →
     edited_changes (put_by number_of_change r rows) e ≡ put_by number_of_change r (edited_changes rows e)
 put_before r rows (edit.PutChange k a) h =
     put_swap number_of_change r (record { change = k; approval = a }) rows
     (λ same. true≢false (sym (ap (λ n. k.number == n) same ∙ grind arith) ∙ h))
 put_before r rows (edit.PutItem q i) h = refl
-put_before r rows (edit.DropItem n) h = refl
+put_before r rows (edit.DropItem m) h = refl
 put_before r rows (edit.PutPlan p) h = refl
-put_before r rows (edit.PutLanding q n l) h = refl
-put_before r rows (edit.PutReport q n p) h = refl
+put_before r rows (edit.PutLanding q m l) h = refl
+put_before r rows (edit.PutReport q m p) h = refl
 put_before r rows (edit.PutBuild b) h = refl
-put_before r rows (edit.SetOutcome n o) h = refl
-put_before r rows (edit.StopBuild n) h = refl
+put_before r rows (edit.SetOutcome m o) h = refl
+put_before r rows (edit.StopBuild m) h = refl
 put_before r rows (edit.SetWindow q w) h = refl
-put_before r rows (edit.SetCounter k n) h = refl
+put_before r rows (edit.SetCounter k m) h = refl
 put_before r rows (edit.Keep k) h = refl
 
--- the tables with the row of a change put
-abbrev with_row : ChangeRow → Tables → Tables
-with_row r t = record t { changes = put_by number_of_change r t.changes }
+-- a counter set before it is drawn from again
+set_again : (k : Counter) (n : ℕ) (d : Drawn) (e : Edit) → draws k e ≡ true →
+    edited_counters (set_counter k n d) e ≡ edited_counters d e
+set_again counter.Approval n d (edit.SetCounter counter.Approval m) h = refl
+set_again counter.Approval n d (edit.SetCounter counter.Build m) h = absurd (true≢false (sym h))
+set_again counter.Approval n d (edit.SetCounter counter.Order m) h = absurd (true≢false (sym h))
+set_again counter.Build n d (edit.SetCounter counter.Approval m) h = absurd (true≢false (sym h))
+set_again counter.Build n d (edit.SetCounter counter.Build m) h = refl
+set_again counter.Build n d (edit.SetCounter counter.Order m) h = absurd (true≢false (sym h))
+set_again counter.Order n d (edit.SetCounter counter.Approval m) h = absurd (true≢false (sym h))
+set_again counter.Order n d (edit.SetCounter counter.Build m) h = absurd (true≢false (sym h))
+set_again counter.Order n d (edit.SetCounter counter.Order m) h = refl
+set_again k n d (edit.PutChange j a) h = absurd (true≢false (sym h))
+set_again k n d (edit.PutItem p i) h = absurd (true≢false (sym h))
+set_again k n d (edit.DropItem m) h = absurd (true≢false (sym h))
+set_again k n d (edit.PutPlan p) h = absurd (true≢false (sym h))
+set_again k n d (edit.PutLanding p m l) h = absurd (true≢false (sym h))
+set_again k n d (edit.PutReport p m r) h = absurd (true≢false (sym h))
+set_again k n d (edit.PutBuild b) h = absurd (true≢false (sym h))
+set_again k n d (edit.SetOutcome m o) h = absurd (true≢false (sym h))
+set_again k n d (edit.StopBuild m) h = absurd (true≢false (sym h))
+set_again k n d (edit.SetWindow q v) h = absurd (true≢false (sym h))
+set_again k n d (edit.Keep j) h = absurd (true≢false (sym h))
 
--- a put that is replaced changes nothing
-replaced_put : (r : ChangeRow) (t : Tables) (es : List Edit) → list_any (puts (number_of_change r)) es ≡ true →
-    fold_all (with_row r t) es ≡ fold_all t es
-replaced_put r t [] h = absurd (true≢false (sym h))
-replaced_put r t (e ∷ es) h = by_test (puts (number_of_change r) e) refl (replaced_put r (edited_tables t e) es)
+set_before : (k : Counter) (n : ℕ) (d : Drawn) (e : Edit) → draws k e ≡ false →
+    edited_counters (set_counter k n d) e ≡ set_counter k n (edited_counters d e)
+set_before counter.Approval n d (edit.SetCounter counter.Approval m) h = absurd (true≢false h)
+set_before counter.Approval n d (edit.SetCounter counter.Build m) h = refl
+set_before counter.Approval n d (edit.SetCounter counter.Order m) h = refl
+set_before counter.Build n d (edit.SetCounter counter.Approval m) h = refl
+set_before counter.Build n d (edit.SetCounter counter.Build m) h = absurd (true≢false h)
+set_before counter.Build n d (edit.SetCounter counter.Order m) h = refl
+set_before counter.Order n d (edit.SetCounter counter.Approval m) h = refl
+set_before counter.Order n d (edit.SetCounter counter.Build m) h = refl
+set_before counter.Order n d (edit.SetCounter counter.Order m) h = absurd (true≢false h)
+set_before k n d (edit.PutChange j a) h = refl
+set_before k n d (edit.PutItem p i) h = refl
+set_before k n d (edit.DropItem m) h = refl
+set_before k n d (edit.PutPlan p) h = refl
+set_before k n d (edit.PutLanding p m l) h = refl
+set_before k n d (edit.PutReport p m r) h = refl
+set_before k n d (edit.PutBuild b) h = refl
+set_before k n d (edit.SetOutcome m o) h = refl
+set_before k n d (edit.StopBuild m) h = refl
+set_before k n d (edit.SetWindow q v) h = refl
+set_before k n d (edit.Keep j) h = refl
+
+-- a window set before that of the same queue is
+sized_again : (q : List ℕ) (w : ℕ) (name : List ℕ) (size : ℕ) (e : Edit) → sets_window q e ≡ true →
+    edited_window name (cond (same_name q name) w size) e ≡ edited_window name size e
+sized_again q w name size (edit.SetWindow p v) h =
+    by_test (same_name p name) (same_name q name) (ap (λ m. same_name m name) (same_name_is p q h))
   where
-    leaves : List ChangeRow → Tables
-    leaves rows = fold_all (record (edited_tables t e) { changes = rows }) es
+    by_test : (a b : Bool) → a ≡ b → cond a v (cond b w size) ≡ cond a v size
+    by_test true b e = refl
+    by_test false false e = refl
+    by_test false true e = absurd (true≢false (sym e))
+sized_again q w name size (edit.PutChange j a) h = absurd (true≢false (sym h))
+sized_again q w name size (edit.PutItem p i) h = absurd (true≢false (sym h))
+sized_again q w name size (edit.DropItem m) h = absurd (true≢false (sym h))
+sized_again q w name size (edit.PutPlan p) h = absurd (true≢false (sym h))
+sized_again q w name size (edit.PutLanding p m l) h = absurd (true≢false (sym h))
+sized_again q w name size (edit.PutReport p m r) h = absurd (true≢false (sym h))
+sized_again q w name size (edit.PutBuild b) h = absurd (true≢false (sym h))
+sized_again q w name size (edit.SetOutcome m o) h = absurd (true≢false (sym h))
+sized_again q w name size (edit.StopBuild m) h = absurd (true≢false (sym h))
+sized_again q w name size (edit.SetCounter j m) h = absurd (true≢false (sym h))
+sized_again q w name size (edit.Keep j) h = absurd (true≢false (sym h))
 
-    by_test : (b : Bool) → puts (number_of_change r) e ≡ b → (list_any (puts (number_of_change r)) es ≡ true →
-        fold_all (with_row r (edited_tables t e)) es ≡ fold_all (edited_tables t e) es) →
-        fold_all (edited_tables (with_row r t) e) es ≡ fold_all (edited_tables t e) es
-    by_test true same rest = ap leaves (put_again r t.changes e same)
-    by_test false other rest = ap leaves (put_before r t.changes e other)
-        ∙ rest (sym (ap (λ b. b || list_any (puts (number_of_change r)) es) other) ∙ h)
+sized_before : (q : List ℕ) (w : ℕ) (name : List ℕ) (size : ℕ) (e : Edit) → sets_window q e ≡ false →
+    edited_window name (cond (same_name q name) w size) e ≡ cond (same_name q name) w (edited_window name size e)
+sized_before q w name size (edit.SetWindow p v) h = by_test (same_name p name) refl (same_name q name) refl
+  where
+    by_test : (a : Bool) → same_name p name ≡ a → (b : Bool) → same_name q name ≡ b →
+        cond a v (cond b w size) ≡ cond b w (cond a v size)
+    by_test true e true f =
+        absurd (true≢false (sym (same_name_of p q (same_name_is p name e ∙ sym (same_name_is q name f))) ∙ h))
+    by_test true e false f = refl
+    by_test false e b f = refl
+sized_before q w name size (edit.PutChange j a) h = refl
+sized_before q w name size (edit.PutItem p i) h = refl
+sized_before q w name size (edit.DropItem m) h = refl
+sized_before q w name size (edit.PutPlan p) h = refl
+sized_before q w name size (edit.PutLanding p m l) h = refl
+sized_before q w name size (edit.PutReport p m r) h = refl
+sized_before q w name size (edit.PutBuild b) h = refl
+sized_before q w name size (edit.SetOutcome m o) h = refl
+sized_before q w name size (edit.StopBuild m) h = refl
+sized_before q w name size (edit.SetCounter j m) h = refl
+sized_before q w name size (edit.Keep j) h = refl
+
+-- ---- an edit that a later one replaces
+
+-- an edit changes nothing if one of these does what it does, and the others have nothing to do with it
+replaced_by : (e : Edit) (sets : Edit → Bool) →
+    ((t : Tables) (f : Edit) → sets f ≡ true → edited_tables (edited_tables t e) f ≡ edited_tables t f) →
+    ((t : Tables) (f : Edit) → sets f ≡ false →
+    edited_tables (edited_tables t e) f ≡ edited_tables (edited_tables t f) e) →
+    (t : Tables) (es : List Edit) → list_any sets es ≡ true → fold_all (edited_tables t e) es ≡ fold_all t es
+replaced_by e sets again before t [] h = absurd (true≢false (sym h))
+replaced_by e sets again before t (f ∷ fs) h =
+    by_test (sets f) refl (replaced_by e sets again before (edited_tables t f) fs)
+  where
+    by_test : (b : Bool) → sets f ≡ b → (list_any sets fs ≡ true →
+        fold_all (edited_tables (edited_tables t f) e) fs ≡ fold_all (edited_tables t f) fs) →
+        fold_all (edited_tables (edited_tables t e) f) fs ≡ fold_all (edited_tables t f) fs
+    by_test true same rest = ap (λ u. fold_all u fs) (again t f same)
+    by_test false other rest =
+        ap (λ u. fold_all u fs) (before t f other) ∙ rest (sym (ap (λ b. b || list_any sets fs) other) ∙ h)
+
+row_again : (k : Change) (a : Option ℕ) (t : Tables) (f : Edit) → puts k.number f ≡ true →
+    edited_tables (edited_tables t (edit.PutChange k a)) f ≡ edited_tables t f
+row_again k a t f h = λ i. record (edited_tables t f) {
+  changes = put_again (record { change = k; approval = a }) t.changes f h i;
+  queues = twice (edited_queue f) (edited_queue (edit.PutChange k a)) (edited_queue f) (λ q. refl) t.queues i;
+}
+
+row_before : (k : Change) (a : Option ℕ) (t : Tables) (f : Edit) → puts k.number f ≡ false →
+    edited_tables (edited_tables t (edit.PutChange k a)) f ≡ edited_tables (edited_tables t f) (edit.PutChange k a)
+row_before k a t f h = λ i. record (edited_tables t f) {
+  changes = put_before (record { change = k; approval = a }) t.changes f h i;
+  queues = swapped (edited_queue f) (edited_queue (edit.PutChange k a)) (λ q. refl) t.queues i;
+}
+
+counter_again : (k : Counter) (n : ℕ) (t : Tables) (f : Edit) → draws k f ≡ true →
+    edited_tables (edited_tables t (edit.SetCounter k n)) f ≡ edited_tables t f
+counter_again k n t f h = λ i. record (edited_tables t f) {
+  queues = twice (edited_queue f) (edited_queue (edit.SetCounter k n)) (edited_queue f) (λ q. refl) t.queues i;
+  counters = set_again k n t.counters f h i;
+}
+
+counter_before : (k : Counter) (n : ℕ) (t : Tables) (f : Edit) → draws k f ≡ false →
+    edited_tables (edited_tables t (edit.SetCounter k n)) f ≡ edited_tables (edited_tables t f) (edit.SetCounter k n)
+counter_before k n t f h = λ i. record (edited_tables t f) {
+  queues = swapped (edited_queue f) (edited_queue (edit.SetCounter k n)) (λ q. refl) t.queues i;
+  counters = set_before k n t.counters f h i;
+}
+
+window_again : (q : List ℕ) (w : ℕ) (t : Tables) (f : Edit) → sets_window q f ≡ true →
+    edited_tables (edited_tables t (edit.SetWindow q w)) f ≡ edited_tables t f
+window_again q w t f h = λ i. record (edited_tables t f) {
+  queues = twice (edited_queue f) (edited_queue (edit.SetWindow q w)) (edited_queue f)
+      (λ x j. record (edited_queue f x) { window = sized_again q w x.name x.window f h j }) t.queues i;
+}
+
+window_before : (q : List ℕ) (w : ℕ) (t : Tables) (f : Edit) → sets_window q f ≡ false →
+    edited_tables (edited_tables t (edit.SetWindow q w)) f ≡ edited_tables (edited_tables t f) (edit.SetWindow q w)
+window_before q w t f h = λ i. record (edited_tables t f) {
+  queues = swapped (edited_queue f) (edited_queue (edit.SetWindow q w))
+      (λ x j. record (edited_queue f x) { window = sized_before q w x.name x.window f h j }) t.queues i;
+}
 
 replaced_edit : (e : Edit) (t : Tables) (es : List Edit) → is_replaced e es ≡ true →
     fold_all t es ≡ fold_all (edited_tables t e) es
 replaced_edit (edit.PutChange k a) t es h =
-    let r : ChangeRow = record { change = k; approval = a } in
-    sym ((λ i. fold_all (record (with_row r t) { queues = map-id t.queues i }) es) ∙ replaced_put r t es h)
+    sym (replaced_by (edit.PutChange k a) (puts k.number) (row_again k a) (row_before k a) t es h)
+replaced_edit (edit.SetCounter k n) t es h =
+    sym (replaced_by (edit.SetCounter k n) (draws k) (counter_again k n) (counter_before k n) t es h)
+replaced_edit (edit.SetWindow q w) t es h =
+    sym (replaced_by (edit.SetWindow q w) (sets_window q) (window_again q w) (window_before q w) t es h)
 replaced_edit (edit.PutItem q i) t es h = absurd (true≢false (sym h))
-replaced_edit (edit.DropItem n) t es h = absurd (true≢false (sym h))
+replaced_edit (edit.DropItem m) t es h = absurd (true≢false (sym h))
 replaced_edit (edit.PutPlan p) t es h = absurd (true≢false (sym h))
-replaced_edit (edit.PutLanding q n l) t es h = absurd (true≢false (sym h))
-replaced_edit (edit.PutReport q n p) t es h = absurd (true≢false (sym h))
+replaced_edit (edit.PutLanding q m l) t es h = absurd (true≢false (sym h))
+replaced_edit (edit.PutReport q m p) t es h = absurd (true≢false (sym h))
 replaced_edit (edit.PutBuild b) t es h = absurd (true≢false (sym h))
-replaced_edit (edit.SetOutcome n o) t es h = absurd (true≢false (sym h))
-replaced_edit (edit.StopBuild n) t es h = absurd (true≢false (sym h))
-replaced_edit (edit.SetWindow q w) t es h = absurd (true≢false (sym h))
-replaced_edit (edit.SetCounter k n) t es h = absurd (true≢false (sym h))
+replaced_edit (edit.SetOutcome m o) t es h = absurd (true≢false (sym h))
+replaced_edit (edit.StopBuild m) t es h = absurd (true≢false (sym h))
 replaced_edit (edit.Keep k) t es h = absurd (true≢false (sym h))
 
--- the thinned edits leave the same tables
-thinned_tables : (t : Tables) (es : List Edit) → fold_all t (thinned es) ≡ fold_all t es
-thinned_tables t [] = refl
-thinned_tables t (e ∷ es) =
-    by_test (is_replaced e es) refl (thinned_tables t es) (thinned_tables (edited_tables t e) es)
+-- ---- a change that enters as it was
+
+-- putting the row changes nothing
+abbrev Stands : ChangeRow → List ChangeRow → Type 0
+Stands r rows = put_by number_of_change r rows ≡ rows
+
+-- if the row of its change isn't that of a ready one, it is this row
+abbrev Returns : ChangeRow → Tables → Type 0
+Returns r t = (o : ChangeRow) → row_of t.changes (number_of_change r) ≡ Some o → o.approval ≡ None → o ≡ r
+
+-- the row of a change that isn't put stays
+row_stays : (n : ℕ) (rows : List ChangeRow) (e : Edit) → puts n e ≡ false →
+    row_of (edited_changes rows e) n ≡ row_of rows n
+row_stays n rows (edit.PutChange k a) h =
+    find_put number_of_change n (record { change = k; approval = a }) rows
+    ∙ ap (λ b. cond b (Some (record { change = k; approval = a })) (row_of rows n)) h
+row_stays n rows (edit.PutItem q i) h = refl
+row_stays n rows (edit.DropItem m) h = refl
+row_stays n rows (edit.PutPlan p) h = refl
+row_stays n rows (edit.PutLanding q m l) h = refl
+row_stays n rows (edit.PutReport q m p) h = refl
+row_stays n rows (edit.PutBuild b) h = refl
+row_stays n rows (edit.SetOutcome m o) h = refl
+row_stays n rows (edit.StopBuild m) h = refl
+row_stays n rows (edit.SetWindow q w) h = refl
+row_stays n rows (edit.SetCounter k m) h = refl
+row_stays n rows (edit.Keep k) h = refl
+
+rows_stay : (n : ℕ) (t : Tables) (es : List Edit) → list_any (puts n) es ≡ false →
+    row_of (fold_all t es).changes n ≡ row_of t.changes n
+rows_stay n t [] h = refl
+rows_stay n t (e ∷ es) h =
+    let both = or_parts (puts n e) (list_any (puts n) es) h in
+    rows_stay n (edited_tables t e) es both.1 ∙ row_stays n t.changes e both.0
+
+-- a put of a change is replaced where that is put again
+replaced_is : (n : ℕ) (e : Edit) (es : List Edit) → puts n e ≡ true → is_replaced e es ≡ list_any (puts n) es
+replaced_is n (edit.PutChange k a) es h = ap (λ m. list_any (puts m) es) (eqb-true k.number n h)
+replaced_is n (edit.PutItem q i) es h = absurd (true≢false (sym h))
+replaced_is n (edit.DropItem m) es h = absurd (true≢false (sym h))
+replaced_is n (edit.PutPlan p) es h = absurd (true≢false (sym h))
+replaced_is n (edit.PutLanding q m l) es h = absurd (true≢false (sym h))
+replaced_is n (edit.PutReport q m p) es h = absurd (true≢false (sym h))
+replaced_is n (edit.PutBuild b) es h = absurd (true≢false (sym h))
+replaced_is n (edit.SetOutcome m o) es h = absurd (true≢false (sym h))
+replaced_is n (edit.StopBuild m) es h = absurd (true≢false (sym h))
+replaced_is n (edit.SetWindow q w) es h = absurd (true≢false (sym h))
+replaced_is n (edit.SetCounter k m) es h = absurd (true≢false (sym h))
+replaced_is n (edit.Keep k) es h = absurd (true≢false (sym h))
+
+-- what puts a change back puts it as this one, without an approval
+back_is : (n : ℕ) (e : Edit) → puts_back (Some n) e ≡ true →
+    (k : Change) × (e ≡ edit.PutChange k None) × (k.number ≡ n)
+back_is n (edit.PutChange k None) h = (k, refl, eqb-true k.number n h)
+back_is n (edit.PutChange k (Some a)) h = absurd (true≢false (sym h))
+back_is n (edit.PutItem q i) h = absurd (true≢false (sym h))
+back_is n (edit.DropItem m) h = absurd (true≢false (sym h))
+back_is n (edit.PutPlan p) h = absurd (true≢false (sym h))
+back_is n (edit.PutLanding q m l) h = absurd (true≢false (sym h))
+back_is n (edit.PutReport q m p) h = absurd (true≢false (sym h))
+back_is n (edit.PutBuild b) h = absurd (true≢false (sym h))
+back_is n (edit.SetOutcome m o) h = absurd (true≢false (sym h))
+back_is n (edit.StopBuild m) h = absurd (true≢false (sym h))
+back_is n (edit.SetWindow q w) h = absurd (true≢false (sym h))
+back_is n (edit.SetCounter k m) h = absurd (true≢false (sym h))
+back_is n (edit.Keep k) h = absurd (true≢false (sym h))
+
+-- ---- what may be left out
+
+-- a change that was made ready had this row, and has it again unless it is ready still; or it isn't put any more
+abbrev pub IsSpare : Option ℕ → Tables → List Edit → Type 0
+IsSpare None t es = Unit {0}
+IsSpare (Some n) t es =
+    ((r : ChangeRow) × (number_of_change r ≡ n) × Stands r t.changes × Returns r (fold_all t es))
+    ⊎ (list_any (puts n) es ≡ false)
+
+spare_replaced : (made : Option ℕ) (t : Tables) (e : Edit) (es : List Edit) → is_replaced e es ≡ true →
+    IsSpare made t (e ∷ es) → IsSpare made t es
+spare_replaced None t e es h spare = tt
+spare_replaced (Some n) t e es h (inl row) =
+    inl (row.0, row.1, row.2, subst (Returns row.0) (sym (replaced_edit e t es h)) row.3)
+spare_replaced (Some n) t e es h (inr none) = inr (or_parts (puts n e) (list_any (puts n) es) none).1
+
+spare_kept : (made : Option ℕ) (t : Tables) (e : Edit) (es : List Edit) → is_replaced e es ≡ false →
+    IsSpare made t (e ∷ es) → IsSpare made (edited_tables t e) es
+spare_kept None t e es h spare = tt
+spare_kept (Some n) t e es h (inr none) = inr (or_parts (puts n e) (list_any (puts n) es) none).1
+spare_kept (Some n) t e es h (inl row) = by_test (puts n e) refl
   where
-    by_test : (b : Bool) → is_replaced e es ≡ b → fold_all t (thinned es) ≡ fold_all t es →
-        fold_all (edited_tables t e) (thinned es) ≡ fold_all (edited_tables t e) es →
-        fold_all t (cond b (thinned es) (e ∷ thinned es)) ≡ fold_all (edited_tables t e) es
-    by_test true h here there = here ∙ replaced_edit e t es h
-    by_test false h here there = there
+    by_test : (b : Bool) → puts n e ≡ b → IsSpare (Some n) (edited_tables t e) es
+    by_test true same = inr (sym (replaced_is n e es same) ∙ h)
+    by_test false other =
+        inl (
+          row.0,
+          row.1,
+          sym (put_before row.0 t.changes e (subst (λ m. puts m e ≡ false) (sym row.1) other))
+              ∙ ap (λ rows. edited_changes rows e) row.2,
+          row.3,
+        )
+
+-- the tables with the row of a change that is put, if it isn't put again
+put_last : (k : Change) (t : Tables) (es : List Edit) → list_any (puts k.number) es ≡ false →
+    row_of (fold_all (edited_tables t (edit.PutChange k None)) es).changes k.number
+    ≡ Some (record { change = k; approval = None })
+put_last k t es h =
+    rows_stay k.number (edited_tables t (edit.PutChange k None)) es h
+    ∙ find_put number_of_change k.number (record { change = k; approval = None }) t.changes
+    ∙ ap (λ b. cond b (Some (record { change = k; approval = None })) (row_of t.changes k.number))
+    (eq-eqb k.number k.number refl)
+
+-- a put of the row that stands
+put_standing : (k : Change) (t : Tables) (es : List Edit) → Stands (record { change = k; approval = None }) t.changes →
+    fold_all (edited_tables t (edit.PutChange k None)) es ≡ fold_all t es
+put_standing k t es stands =
+    (λ i. fold_all (record (edited_tables t (edit.PutChange k None)) { queues = map-id t.queues i }) es)
+    ∙ ap (λ (rows : List ChangeRow). fold_all (record t { changes = rows }) es) stands
+
+spare_back : (made : Option ℕ) (t : Tables) (e : Edit) (es : List Edit) → is_replaced e es ≡ false →
+    puts_back made e ≡ true → IsSpare made t (e ∷ es) →
+    (fold_all (edited_tables t e) es ≡ fold_all t es) × IsSpare made t es
+spare_back None t e es h back spare = absurd (true≢false (sym back))
+spare_back (Some n) t e es h back spare = by_row spare
+  where
+    is : (k : Change) × (e ≡ edit.PutChange k None) × (k.number ≡ n)
+    is = back_is n e back
+
+    same : puts n e ≡ true
+    same = ap (puts n) is.1 ∙ eq-eqb is.0.number n is.2
+
+    last : list_any (puts n) es ≡ false
+    last = sym (replaced_is n e es same) ∙ h
+
+    by_row : IsSpare (Some n) t (e ∷ es) → (fold_all (edited_tables t e) es ≡ fold_all t es) × IsSpare (Some n) t es
+    by_row (inr none) =
+        absurd (true≢false (sym same ∙ (or_parts (puts n e) (list_any (puts n) es) none).0))
+    by_row (inl row) =
+        let k = is.0 in
+        let put : ChangeRow = record { change = k; approval = None } in
+        let there : row_of (fold_all (edited_tables t e) es).changes (number_of_change row.0) ≡ Some put =
+        (λ i. row_of (fold_all (edited_tables t (is.1 i)) es).changes ((row.1 ∙ sym is.2) i))
+        ∙ put_last k t es (subst (λ m. list_any (puts m) es ≡ false) (sym is.2) last) in
+        let one : put ≡ row.0 = row.3 put there refl in (
+          ap (λ x. fold_all (edited_tables t x) es) is.1
+              ∙ put_standing k t es (subst (λ r. Stands r t.changes) (sym one) row.2),
+          inr last,
+        )
+
+-- ---- the thinned edits
+
+-- they leave the same tables
+thinned_tables : (made : Option ℕ) (t : Tables) (es : List Edit) → IsSpare made t es →
+    fold_all t (thinned made es) ≡ fold_all t es
+thinned_tables made t [] spare = refl
+thinned_tables made t (e ∷ es) spare =
+    by_tests (is_replaced e es) refl (puts_back made e) refl (λ u. thinned_tables made u es)
+  where
+    by_tests : (a : Bool) → is_replaced e es ≡ a → (b : Bool) → puts_back made e ≡ b →
+        ((u : Tables) → IsSpare made u es → fold_all u (thinned made es) ≡ fold_all u es) →
+        fold_all t (cond (a || b) (thinned made es) (e ∷ thinned made es)) ≡ fold_all (edited_tables t e) es
+    by_tests true h b k rest = rest t (spare_replaced made t e es h spare) ∙ replaced_edit e t es h
+    by_tests false h true k rest =
+        let back = spare_back made t e es h k spare in
+        rest t back.1 ∙ sym back.0
+    by_tests false h false k rest = rest (edited_tables t e) (spare_kept made t e es h spare)
 
 -- where the edits lead, the thinned ones lead too
-pub thinned_leads : (c : Settings) (x : Content) (es : List Edit) (y : Content) → Leads c x es y →
-    Leads c x (thinned es) y
-thinned_leads c x es y leads = thinned_tables (tables c x) es ∙ leads
+pub thinned_leads : (c : Settings) (x : Content) (made : Option ℕ) (es : List Edit) (y : Content) →
+    IsSpare made (tables c x) es → Leads c x es y → Leads c x (thinned made es) y
+thinned_leads c x made es y spare leads = thinned_tables made (tables c x) es spare ∙ leads
+
+-- ---- the change that a delivery makes ready
+
+-- no change is put by settling
+admitted_changes : (c : Settings) (rs : List Ready) (s : State) →
+    (fold (λ t _. admit_one c t) s rs).changes ≡ s.changes
+admitted_changes c [] s = refl
+admitted_changes c (r ∷ rs) s = admitted_changes c rs (admit_one c s) ∙ by_found (find (may_enter c s) s.ready)
+  where
+    by_found : (o : Option Ready) → (option_map_or (entered c s) o s).changes ≡ s.changes
+    by_found None = refl
+    by_found (Some r) = refl
+
+settled_changes : (c : Settings) (s : State) → (settle c s).changes ≡ s.changes
+settled_changes c s = admitted_changes c (sweep c (rebase c s)).ready (sweep c (rebase c s))
+
+-- a change that isn't ready has no approval
+no_approval : (rs : List Ready) (n : ℕ) → list_any (λ r. r.change == n) rs ≡ false → approval_of rs n ≡ None
+no_approval [] n h = refl
+no_approval (r ∷ rs) n h = by_test (r.change == n) refl (no_approval rs n)
+  where
+    by_test : (b : Bool) → r.change == n ≡ b → (list_any (λ x. x.change == n) rs ≡ false → approval_of rs n ≡ None) →
+        approval_of (r ∷ rs) n ≡ None
+    by_test true e rest = absurd (true≢false (sym e ∙ (or_parts (r.change == n) _ h).0))
+    by_test false e rest =
+        ap (λ b. option_map (λ (x : Ready). x.approval) (cond b (Some r) (find (λ x. x.change == n) rs))) e
+        ∙ rest (or_parts (r.change == n) _ h).1
+
+-- its row is as it was, unless it is ready
+pub made_spare : (c : Settings) (x : Content) (reply : PendingReply) (t : State) (es : List Edit) →
+    IsSound c x.state → MakesReady x.state reply t → Leads c x es (in_state x (settle c t)) →
+    IsSpare (newly_ready reply) (tables c x) es
+made_spare c x (pending.Now r) t es sound makes leads = tt
+made_spare c x (pending.PlaceOf n) t es sound makes leads =
+    inl (row, number, row_known x.state n k sound.changes_rise makes.known, returns)
+  where
+    k : Change
+    k = makes.change
+
+    row : ChangeRow
+    row = change_row x.state.ready k
+
+    number : k.number ≡ n
+    number = known_number x.state n k makes.known
+
+    u : State
+    u = settle c t
+
+    rows : (fold_all (tables c x) es).changes ≡ map (change_row u.ready) x.state.changes
+    rows = ap (λ (y : Tables). y.changes) leads ∙ ap (map (change_row u.ready)) (settled_changes c t ∙ makes.changes)
+
+    told : row_of (fold_all (tables c x) es).changes k.number ≡ Some (change_row u.ready k)
+    told = ap (λ ys. row_of ys k.number) rows
+        ∙ find_map (change_row u.ready) (λ (r : ChangeRow). r.change.number == k.number) x.state.changes
+        ∙ ap (λ m. option_map (change_row u.ready) (known_change x.state m)) number
+        ∙ ap (option_map (change_row u.ready)) makes.known
+
+    unready : approval_of x.state.ready k.number ≡ None
+    unready = ap (approval_of x.state.ready) number ∙ no_approval x.state.ready n makes.unready
+
+    returns : Returns row (fold_all (tables c x) es)
+    returns o is none =
+        let same : change_row u.ready k ≡ o = same_Some (change_row u.ready k) o (sym told ∙ is) in
+        sym same ∙ (λ i. record { change = k; approval = (ap (λ (r : ChangeRow). r.approval) same ∙ none ∙ sym unready) i })
+
+-- ---- what is noted
+
+draw_noted : (k : Counter) (m : ℕ) (edits : List Edit) (s : Later) → IsNotedOf edits s →
+    IsNotedOf (edit.SetCounter k m ∷ edits) (with_drawn k s)
+draw_noted counter.Approval m edits s h = record { changes = h.changes; counters = by; windows = h.windows }
+  where
+    by : (j : Counter) → has_drawn (with_drawn counter.Approval s) j
+        ≡ list_any (draws j) (edit.SetCounter counter.Approval m ∷ edits)
+    by counter.Approval = refl
+    by counter.Build = h.counters counter.Build
+    by counter.Order = h.counters counter.Order
+draw_noted counter.Build m edits s h = record { changes = h.changes; counters = by; windows = h.windows }
+  where
+    by : (j : Counter) → has_drawn (with_drawn counter.Build s) j
+        ≡ list_any (draws j) (edit.SetCounter counter.Build m ∷ edits)
+    by counter.Approval = h.counters counter.Approval
+    by counter.Build = refl
+    by counter.Order = h.counters counter.Order
+draw_noted counter.Order m edits s h = record { changes = h.changes; counters = by; windows = h.windows }
+  where
+    by : (j : Counter) → has_drawn (with_drawn counter.Order s) j
+        ≡ list_any (draws j) (edit.SetCounter counter.Order m ∷ edits)
+    by counter.Approval = h.counters counter.Approval
+    by counter.Build = h.counters counter.Build
+    by counter.Order = refl
+
+pub draw_is_noted : (e : Edit) (k : Counter) (m : ℕ) → e ≡ edit.SetCounter k m → (edits : List Edit) (s t : Later) →
+    t ≡ with_drawn k s → IsNotedOf edits s → IsNotedOf (e ∷ edits) t
+draw_is_noted e k m is edits s t new h =
+    subst (λ x. IsNotedOf (x ∷ edits) t) (sym is)
+    (subst (IsNotedOf (edit.SetCounter k m ∷ edits)) (sym new) (draw_noted k m edits s h))
+
+pub put_is_noted : (e : Edit) (k : Change) (a : Option ℕ) → e ≡ edit.PutChange k a → (edits : List Edit) (s : Later)
+    (numbers : BTreeSet ℕ) → AreNumbersOf (edit.PutChange k a ∷ edits) numbers → IsNotedOf edits s →
+    IsNotedOf (e ∷ edits) (record s { changes = numbers })
+put_is_noted e k a is edits s numbers put h =
+    subst (λ x. IsNotedOf (x ∷ edits) (record s { changes = numbers })) (sym is)
+    (record { changes = put; counters = h.counters; windows = h.windows })
 
 -- ---- the loop, which goes from the back
 
 -- of all edits these are left; the later ones are gone through, and these of them stay, the last one first
-pub record Thinning (all rest staying : List Edit) (numbers : BTreeSet ℕ) : Type 0 where
+pub record Thinning (made : Option ℕ) (all rest staying : List Edit) (noted : Later) : Type 0 where
   pub later : List Edit
   pub split : all ≡ rest ++ later
-  pub stay : staying ≡ reverse (thinned later)
-  pub put : AreNumbersOf later numbers
+  pub stay : staying ≡ reverse (thinned made later)
+  pub put : IsNotedOf later noted
 
-pub thinning_next : {all rest staying : List Edit} {numbers : BTreeSet ℕ} (h : Thinning all rest staying numbers)
-    (e : Edit) (left more : List Edit) (stays : Bool) (noted : BTreeSet ℕ) → rest ≡ left ++ e ∷ [] →
-    stays ≡ not (is_replaced e h.later) → more ≡ cond stays (staying ++ e ∷ []) staying →
-    AreNumbersOf (e ∷ h.later) noted → Thinning all left more noted
-thinning_next {staying = staying} h e left more stays noted taken told put numbers = record {
+pub thinning_next : {made : Option ℕ} {all rest staying : List Edit} {before : Later}
+    (h : Thinning made all rest staying before) (e : Edit) (left more : List Edit) (stays : Bool) (noted : Later) →
+    rest ≡ left ++ e ∷ [] → stays ≡ not (is_replaced e h.later || puts_back made e) →
+    more ≡ cond stays (staying ++ e ∷ []) staying → IsNotedOf (e ∷ h.later) noted →
+    Thinning made all left more noted
+thinning_next {made = made} {staying = staying} h e left more stays noted taken told put numbers = record {
   later = e ∷ h.later;
   split = h.split ∙ ap (λ xs. xs ++ h.later) taken ∙ append_assoc left (e ∷ []) h.later;
-  stay = put ∙ ap (λ b. cond b (staying ++ e ∷ []) staying) told ∙ by_test (is_replaced e h.later);
+  stay =
+      put ∙ ap (λ b. cond b (staying ++ e ∷ []) staying) told ∙ by_test (is_replaced e h.later || puts_back made e);
   put = numbers;
 }
   where
-    by_test : (b : Bool) →
-        cond (not b) (staying ++ e ∷ []) staying ≡ reverse (cond b (thinned h.later) (e ∷ thinned h.later))
+    by_test : (b : Bool) → cond (not b) (staying ++ e ∷ []) staying
+        ≡ reverse (cond b (thinned made h.later) (e ∷ thinned made h.later))
     by_test true = h.stay
-    by_test false = ap (λ xs. xs ++ e ∷ []) h.stay ∙ sym (reverse_onto (thinned h.later) e [])
+    by_test false = ap (λ xs. xs ++ e ∷ []) h.stay ∙ sym (reverse_onto (thinned made h.later) e [])

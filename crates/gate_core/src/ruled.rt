@@ -9,7 +9,7 @@ ghost use Rattle.gate_core.specs.Ruled.{IsRuled};
 
 use crate::admitted::admitted;
 use crate::speaking::speak;
-use crate::thinned::thinned;
+use crate::thinned::{newly_ready, thinned};
 use gate_book_trait::{Book, BookFault};
 use gate_laws::{runs, settling as settling_laws};
 use gate_reads::{Moved, Raw};
@@ -74,9 +74,9 @@ fn settle<B: Book>(
     let settled = joined(edits, settling(alloc, book, config, &touched)?)?;
     match admitted(alloc, book, config, settled)? {
         Some(all) => {
-            let made = thinned(alloc, all)?;
-            let reply = speak(book, config, pending, &made)?;
-            Ok(Ruled::Accepted(reply, made))
+            let ready = newly_ready(&pending);
+            let reply = speak(book, config, pending, &all)?;
+            Ok(Ruled::Accepted(reply, thinned(alloc, &ready, all)?))
         }
         None => Ok(Ruled::Refused(Refusal::Exhausted)),
     }

@@ -1,10 +1,11 @@
 -- What a delivery comes to before settling.
-use Rattle.std.specs.Prelude.{◌≡◌, false}
+use Rattle.std.specs.Prelude.{◌≡◌, ℕ, false, Some}
+use Rattle.gate_types.specs.declared.records.Change.{Change}
 use Rattle.gate_types.specs.declared.deliveries.Delivery.{Delivery}
 use Rattle.gate_types.specs.declared.deliveries.Reply.{Reply}
 use Rattle.gate_types.specs.declared.deliveries.Answer.TheVariants as answer
 use Rattle.gate_types.specs.Settings.{Settings}
-use Rattle.gate_types.specs.State.{State, is_queued}
+use Rattle.gate_types.specs.State.{State, known_change, is_ready}
 use Rattle.gate_types.specs.Settle.{settle}
 use Rattle.gate_types.specs.Step.{raw_step, step, accepted, refused, approval_reply}
 use Rattle.gate_types.specs.Once.{Content, is_unavailable}
@@ -22,10 +23,17 @@ abbrev pub reply_by : PendingReply → State → Reply
 reply_by (pending.Now r) u = r
 reply_by (pending.PlaceOf n) u = approval_reply n u
 
--- a change whose place is told stands in no queue yet
-abbrev pub IsUnplaced : State → PendingReply → Type 0
-IsUnplaced s (pending.Now r) = Unit {0}
-IsUnplaced s (pending.PlaceOf n) = is_queued s n ≡ false
+-- a known change that wasn't ready, and no change is put otherwise
+pub record IsMadeReady (s t : State) (n : ℕ) : Type 0 where
+  pub change : Change
+  pub known : known_change s n ≡ Some change
+  pub unready : is_ready s n ≡ false
+  pub changes : t.changes ≡ s.changes
+
+-- a change whose place is told becomes ready
+abbrev pub MakesReady : State → PendingReply → State → Type 0
+MakesReady s (pending.Now r) t = Unit {0}
+MakesReady s (pending.PlaceOf n) t = IsMadeReady s t n
 
 -- the delivery is accepted and changes something: the edits move the content to the state before settling, and the
 -- reply and the touched item are the delivery's
@@ -35,7 +43,7 @@ pub record IsMoved (c : Settings) (x : Content) (d : Delivery) (m : Moved) : Typ
   pub acts : is_stale (reply_by m.reply (settle c after)) ≡ false
   pub touches : Touches c x.state d m.touched
   pub moves : Moves x m.edits.items after
-  pub unplaced : IsUnplaced x.state m.reply
+  pub makes_ready : MakesReady x.state m.reply after
 
 -- a delivery is refused; or it is accepted and changes nothing; or edits move the content
 abbrev pub IsRaw : Settings → Content → Delivery → Raw → Type 0

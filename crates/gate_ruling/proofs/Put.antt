@@ -92,6 +92,16 @@ put_known s n k rises h = along s.changes (rising number_of s.changes rises) h
           ∙ ap (λ l. j ∷ l) (along js r.1 rest))
     ]
 
+-- its row does too
+pub row_known : (s : State) (n : ℕ) (k : Change) → IsStrictlyIncreasing (map number_of s.changes) →
+    known_change s n ≡ Some k →
+    put_by (λ (r : ChangeRow). r.change.number) (change_row s.ready k) (map (change_row s.ready) s.changes)
+    ≡ map (change_row s.ready) s.changes
+row_known s n k rises known =
+    rows_put s.ready s.ready k (approval_of s.ready k.number) refl (λ m apart. refl) s.changes
+    (rising number_of s.changes rises)
+    ∙ ap (map (change_row s.ready)) (put_known s n k rises known)
+
 -- ---- the ready list
 
 taken_out : (rs : List Ready) (n : ℕ) → approval_of (filter (λ r. not (r.change == n)) rs) n ≡ None

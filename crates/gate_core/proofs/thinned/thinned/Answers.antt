@@ -6,4 +6,4 @@ loop-edit-preserved c =
     let going = c.loop-edit.invariant in
     thinning_next going c.in-Some.edit _ _ _ _ c.in-Some.ensures.items
     (c.in_ok-staying.ensures.stays going.later going.put) c.in_ok-push_if.ensures
-    (c.in_ok-staying.ensures.numbers going.later going.put)
+    (c.in_ok-staying.ensures.noted going.later going.put)

@@ -60,7 +60,7 @@ returns-clause-raw g c trusted x holds lawful =
       touches = refl;
       moves = subst (λ es. Moves x es (made_ready n x.state)) (sym c.in_ok-made_ready.ensures)
           (ready_moves x n k lawful.lawful.sound.changes_rise latest.0 away.1 _ (ap (λ m. m + 1) drawn));
-      unplaced = away.0;
+      makes_ready = record { change = k; known = latest.0; unready = away.1; changes = refl };
     }
 
 pub returns-in-Err-clause-raw : goal.returns-in-Err-clause-raw

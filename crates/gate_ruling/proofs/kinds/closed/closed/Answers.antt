@@ -8,10 +8,9 @@ use Rattle.gate_types.specs.SubmitOrder.{is_submitting}
 use Rattle.gate_types.specs.Step.{leave, refused, settled_step, step}
 use Rattle.gate_book_trait.proofs.KeptLemmas.{then}
 use Rattle.gate_reads.specs.Moves.{Moves}
-use Rattle.gate_reads.specs.Touches.{Touches}
 use Rattle.gate_ruling.specs.Guards.{IsLatest}
 use Rattle.gate_ruling.proofs.Guarded.{unless_closed, past_or_closed, closed_stale}
-use Rattle.gate_ruling.proofs.GivenUp.{given_up, queued_by}
+use Rattle.gate_ruling.proofs.GivenUp.{given_up, queued_by, submitting_so}
 use Rattle.gate_ruling.proofs.Closed.{closing, closed_raw, shown_raw, closed_acts, closed_is}
 use Rattle.gate_laws.proofs.EachAccepted.{closed_state}
 use Rattle.gate_ruling.proofs.kinds.closed.closed.Goals as goal
@@ -23,31 +22,29 @@ returns-clause-raw g c trusted x holds lawful =
     let r = c.args.revision in
     let k = c.in-Ok.known in
     let d = delivery.Closed n r in
-    let three = c.in_ok-left.ensures.kept.trusted_before trusted in
-    let two = c.in_ok-stand.ensures.kept.trusted_before three in
-    let one = c.in_ok-is_submitting.ensures.kept.trusted_before two in
+    let two = c.in_ok-left.ensures.kept.trusted_before trusted in
+    let one = c.in_ok-place.ensures.kept.trusted_before two in
     let at_one = c.in_ok-known.ensures.kept.holds_on one _ x holds in
-    let at_two = c.in_ok-is_submitting.ensures.kept.holds_on two _ x at_one in
-    let at_three = c.in_ok-stand.ensures.kept.holds_on three _ x at_two in
+    let at_two = c.in_ok-place.ensures.kept.holds_on two _ x at_one in
     let latest = subst (IsLatest s x n r) c.in-Ok.is (c.in_ok-known.ensures.latest one s x holds lawful) in
+    let so = c.in_ok-place.ensures.found two x at_one lawful in
     let free : is_submitting s x.state n ≡ false =
-    sym (c.in_ok-is_submitting.ensures.found two x at_one lawful) ∙ c.if-branch.false in
-    let so = c.in_ok-stand.ensures.found three x at_two lawful in
+    submitting_so s x.state n c.in_ok-place.place so ∙ sym c.is_submitting.ensures ∙ c.if-is_submitting.false in
     let opens : is_open k ≡ true = sym c.is_open.ensures ∙ c.if-not-is_open.false in
-    let touched = c.in_ok-left.ensures.touched in
-    let queued : is_some c.in_ok-left.left.touched ≡ is_queued x.state n =
-    ap is_some touched ∙ queued_by s x.state n verdict.Closed c.in_ok-stand.stand so in
+    let left = c.in_ok-left.left in
+    let touched = c.in_ok-left.ensures.touched trusted x at_two lawful n so free in
+    let queued : is_some left.touched ≡ is_queued x.state n =
+    queued_by s x.state n verdict.Closed left.touched touched in
     let said = c.removed_or_recorded-reply.ensures in
     record {
       after = closed_state n x.state;
       accepted = closed_raw s x.state n r k latest.1 opens free _ _ said queued;
       acts = closed_acts _ _ said;
-      touches = subst (Touches s x.state d) (sym touched)
-          (given_up s x.state d n verdict.Closed c.in_ok-stand.stand so refl refl (λ i. refl));
+      touches = given_up s x.state d n verdict.Closed left.touched touched refl refl (λ i. refl);
       moves = subst (Moves x c.in_ok-edits.edits.items) (closed_is x.state n k latest.0)
           (c.in_ok-edits.ensures x (leave verdict.Closed n x.state) lawful.lawful.sound.changes_rise
-          (c.in_ok-left.ensures.moves trusted x at_three lawful n so));
-      unplaced = tt;
+          (c.in_ok-left.ensures.moves trusted x at_two lawful n so free));
+      makes_ready = tt;
     }
 
 pub returns-in-Err-clause-raw : goal.returns-in-Err-clause-raw
@@ -68,47 +65,37 @@ returns-then-not-is_open-clause-raw g c trusted x holds lawful =
     closed_stale x.state n r c.in-Ok.known (closing s x.state n) latest.1
     (sym c.is_open.ensures ∙ c.if-not-is_open.true)
 
-pub returns-then-branch-clause-raw : goal.returns-then-branch-clause-raw
-returns-then-branch-clause-raw g c trusted x holds lawful =
+pub returns-then-is_submitting-clause-raw : goal.returns-then-is_submitting-clause-raw
+returns-then-is_submitting-clause-raw g c trusted x holds lawful =
     let s = c.args.config.now in
     let n = c.args.change in
     let r = c.args.revision in
     let k = c.in-Ok.known in
-    let one = c.in_ok-is_submitting.ensures.kept.trusted_before trusted in
+    let one = c.in_ok-place.ensures.kept.trusted_before trusted in
     let at_one = c.in_ok-known.ensures.kept.holds_on one _ x holds in
     let latest = subst (IsLatest s x n r) c.in-Ok.is (c.in_ok-known.ensures.latest one s x holds lawful) in
     let opens : is_open k ≡ true = sym c.is_open.ensures ∙ c.if-not-is_open.false in
     let shown : is_submitting s x.state n ≡ true =
-    sym (c.in_ok-is_submitting.ensures.found trusted x at_one lawful) ∙ c.if-branch.true in
+    submitting_so s x.state n c.in_ok-place.place (c.in_ok-place.ensures.found trusted x at_one lawful)
+    ∙ sym c.is_submitting.ensures ∙ c.if-is_submitting.true in
     let refuses : step s x.state (delivery.Closed n r) ≡ refused refusal.Submitting =
     ap (settled_step s) (shown_raw s x.state n r k latest.1 opens shown) in
     search rules
 
-pub returns-in_err-is_submitting-clause-kept : goal.returns-in_err-is_submitting-clause-kept
-returns-in_err-is_submitting-clause-kept g c = then c.in_ok-known.ensures.kept c.in_err-is_submitting.ensures.kept
+pub returns-in_err-place-clause-kept : goal.returns-in_err-place-clause-kept
+returns-in_err-place-clause-kept g c = then c.in_ok-known.ensures.kept c.in_err-place.ensures.kept
 
-pub returns-then-branch-clause-kept : goal.returns-then-branch-clause-kept
-returns-then-branch-clause-kept g c = then c.in_ok-known.ensures.kept c.in_ok-is_submitting.ensures.kept
-
-pub returns-in_err-stand-clause-kept : goal.returns-in_err-stand-clause-kept
-returns-in_err-stand-clause-kept g c =
-    let two = then c.in_ok-known.ensures.kept c.in_ok-is_submitting.ensures.kept in
-    then two c.in_err-stand.ensures.kept
+pub returns-then-is_submitting-clause-kept : goal.returns-then-is_submitting-clause-kept
+returns-then-is_submitting-clause-kept g c = then c.in_ok-known.ensures.kept c.in_ok-place.ensures.kept
 
 pub returns-in_err-left-clause-kept : goal.returns-in_err-left-clause-kept
 returns-in_err-left-clause-kept g c =
-    let two = then c.in_ok-known.ensures.kept c.in_ok-is_submitting.ensures.kept in
-    let three = then two c.in_ok-stand.ensures.kept in
-    then three c.in_err-left.ensures.kept
+    then (then c.in_ok-known.ensures.kept c.in_ok-place.ensures.kept) c.in_err-left.ensures.kept
 
 pub returns-in_err-edits-clause-kept : goal.returns-in_err-edits-clause-kept
 returns-in_err-edits-clause-kept g c =
-    let two = then c.in_ok-known.ensures.kept c.in_ok-is_submitting.ensures.kept in
-    let three = then two c.in_ok-stand.ensures.kept in
-    then three c.in_ok-left.ensures.kept
+    then (then c.in_ok-known.ensures.kept c.in_ok-place.ensures.kept) c.in_ok-left.ensures.kept
 
 pub returns-clause-kept : goal.returns-clause-kept
 returns-clause-kept g c =
-    let two = then c.in_ok-known.ensures.kept c.in_ok-is_submitting.ensures.kept in
-    let three = then two c.in_ok-stand.ensures.kept in
-    then three c.in_ok-left.ensures.kept
+    then (then c.in_ok-known.ensures.kept c.in_ok-place.ensures.kept) c.in_ok-left.ensures.kept

@@ -1,4 +1,5 @@
-use Rattle.std.proofs.Common.{◌≡◌, ◌∙◌, ◌+◌, ◌++◌, ◌∷◌, [], length, Some, true, refl, sym, ap, subst, arith, rules}
+use Rattle.std.proofs.Common.{◌≡◌, ◌∙◌, ◌+◌, ◌++◌, ◌∷◌, [], length, Some, true, false, refl, sym, ap, subst, arith}
+use Rattle.std.proofs.Common.{rules}
 use Rattle.std.specs.Prelude.{find}
 use Rattle.std.proofs.lemmas.Option.{same_Some}
 use Rattle.gate_types.specs.declared.deliveries.Delivery.TheVariants as delivery
@@ -28,29 +29,26 @@ pub returns-clause-raw : goal.returns-clause-raw
 returns-clause-raw g c trusted x holds lawful =
     let s = c.args.config.now in
     let number = c.args.order in
-    let k = c.in-Ok.queued in
+    let k = c.in-Ok.shown.queued in
     let known = c.in-Some-2.known in
     let d = delivery.Landed number in
     let settings : are_sound s ≡ true = search rules in
     let sound = lawful.lawful.sound in
-    let five = c.in_ok-known.ensures.kept.trusted_before trusted in
-    let four = c.in_ok-plan.ensures.kept.trusted_before five in
-    let three = c.in_ok-edits.ensures.kept.trusted_before four in
-    let two = c.in_ok-landings.ensures.kept.trusted_before three in
-    let one = c.in_ok-window.ensures.kept.trusted_before two in
-    let at_one = c.in_ok-queued.ensures.kept.holds_on one _ x holds in
-    let at_two = c.in_ok-window.ensures.kept.holds_on two _ x at_one in
-    let at_three = c.in_ok-landings.ensures.kept.holds_on three _ x at_two in
-    let at_four = c.in_ok-edits.ensures.kept.holds_on four _ x at_three in
-    let at_five = c.in_ok-plan.ensures.kept.holds_on five _ x at_four in
-    let o = subst (IsOrdered s x number) c.in-Ok.is (c.in_ok-queued.ensures.ordered one x holds lawful) in
+    let three = c.in_ok-known.ensures.kept.trusted_before trusted in
+    let two = c.in_ok-landing_count.ensures.kept.trusted_before three in
+    let one = c.in_ok-figures.ensures.kept.trusted_before two in
+    let at_one = c.in_ok-shown.ensures.kept.holds_on one _ x holds in
+    let at_two = c.in_ok-figures.ensures.kept.holds_on two _ x at_one in
+    let at_three = c.in_ok-landing_count.ensures.kept.holds_on three _ x at_two in
+    let ordered = subst (IsOrdered s x number) c.in-Ok.is (c.in_ok-shown.ensures.ordered one x holds lawful) in
+    let o = ordered.0 in
+    let figures = c.in_ok-figures.ensures.found two s x at_one lawful in
     let h = stored s x.state k.queue k.item o.row.stored in
     let is : known_change x.state k.item.change ≡ Some known =
-    sym (c.in_ok-known.ensures.found trusted s x at_five lawful) ∙ c.in-Some-2.is in
+    sym (c.in_ok-known.ensures.found trusted s x at_three lawful) ∙ c.in-Some-2.is in
     let before : c.in-Some.window ≡ h.queue.window =
-    same_Some c.in-Some.window h.queue.window
-    (sym c.in-Some.is ∙ c.in_ok-window.ensures.found two s x at_one lawful ∙ window_stored h) in
-    let count = c.in_ok-landings.ensures.found three s x at_two lawful ∙ landings_stored h in
+    same_Some c.in-Some.window h.queue.window (sym c.in-Some.is ∙ figures.window ∙ window_stored h) in
+    let count = c.in_ok-landing_count.ensures.found three s x at_two lawful ∙ landings_stored h in
     let few = few_landings s x lawful h.queue h.there in
     let plus = c.saturating_add-place.ensures in
     let place = c.saturating_add-place.result in
@@ -63,12 +61,13 @@ returns-clause-raw g c trusted x holds lawful =
     ∙ ap (λ z. c.in_ok-edits.edits.items ++ landing_edits k place z c.window_now-resized.result) before in
     let landing = subst (λ es. Moves x es u) (sym edits)
     (moves_on x t u c.in_ok-edits.edits.items (landing_edits k place h.queue.window c.window_now-resized.result)
-    (c.in_ok-edits.ensures.moves four x at_three lawful o.row.stored)
+    (c.in_ok-edits.ensures x lawful o.row.stored figures.reports (c.as_slice.ensures ∙ ordered.2))
     (lands s x k settings sound h place c.window_now-resized.result at window)) in
     let plan = landed_plan x.state k.item.serial in
     let planned = c.in_ok-edits-3.ensures
     ∙ ap (λ (p : Plan). c.in_ok-edits-2.edits.items ++ edit.PutPlan p ∷ [])
-    (c.in_ok-plan.ensures.found five s x at_four lawful) in
+    (c.landed_plan-plan.ensures
+    ∙ ap (λ (p : Plan). record { serial = k.item.serial; jobs = p.jobs; fast = false }) ordered.1) in
     let moves = subst (λ es. Moves x es (put_plan plan u)) (sym planned)
     (moves_on x u (put_plan plan u) c.in_ok-edits-2.edits.items (edit.PutPlan plan ∷ []) landing
     (plan_put x u plan)) in
@@ -77,112 +76,86 @@ returns-clause-raw g c trusted x holds lawful =
       accepted = landed_raw s x.state number k known sound o h
           (same_queue s x.state number k settings sound o h) is place at;
       acts = refl;
-      touches = subst (λ y. Touches s x.state d (Some y)) (sym c.touched.ensures) (landed_touches s x.state number k o);
+      touches = subst (λ y. Touches s x.state d (Some y)) (sym c.touched.ensures)
+          (landed_touches s x.state number k c.in_ok-figures.figures o figures);
       moves = c.in_ok-edits-4.ensures x (put_plan plan u) sound.changes_rise moves;
-      unplaced = tt;
+      makes_ready = tt;
     }
 
 pub returns-in_default-clause-undamaged : goal.returns-in_default-clause-undamaged
 returns-in_default-clause-undamaged g c trusted x holds lawful =
     let s = c.args.config.now in
-    let k = c.in-Ok.queued in
-    let one = c.in_ok-window.ensures.kept.trusted_before trusted in
-    let at_one = c.in_ok-queued.ensures.kept.holds_on one _ x holds in
-    let o = subst (IsOrdered s x c.args.order) c.in-Ok.is (c.in_ok-queued.ensures.ordered one x holds lawful) in
+    let k = c.in-Ok.shown.queued in
+    let one = c.in_ok-figures.ensures.kept.trusted_before trusted in
+    let at_one = c.in_ok-shown.ensures.kept.holds_on one _ x holds in
+    let o = (subst (IsOrdered s x c.args.order) c.in-Ok.is (c.in_ok-shown.ensures.ordered one x holds lawful)).0 in
     let h = stored s x.state k.queue k.item o.row.stored in
     absurd (window_there s x.state k.queue k.item h
-    (sym (c.in_ok-window.ensures.found trusted s x at_one lawful) ∙ c.in_default.is))
+    (sym (c.in_ok-figures.ensures.found trusted s x at_one lawful).window ∙ c.in_default.is))
 
 pub returns-in_default-2-clause-undamaged : goal.returns-in_default-2-clause-undamaged
 returns-in_default-2-clause-undamaged g c trusted x holds lawful =
     let s = c.args.config.now in
-    let k = c.in-Ok.queued in
-    let five = c.in_ok-known.ensures.kept.trusted_before trusted in
-    let four = c.in_ok-plan.ensures.kept.trusted_before five in
-    let three = c.in_ok-edits.ensures.kept.trusted_before four in
-    let two = c.in_ok-landings.ensures.kept.trusted_before three in
-    let one = c.in_ok-window.ensures.kept.trusted_before two in
-    let at_one = c.in_ok-queued.ensures.kept.holds_on one _ x holds in
-    let at_two = c.in_ok-window.ensures.kept.holds_on two _ x at_one in
-    let at_three = c.in_ok-landings.ensures.kept.holds_on three _ x at_two in
-    let at_four = c.in_ok-edits.ensures.kept.holds_on four _ x at_three in
-    let at_five = c.in_ok-plan.ensures.kept.holds_on five _ x at_four in
-    let o = subst (IsOrdered s x c.args.order) c.in-Ok.is (c.in_ok-queued.ensures.ordered one x holds lawful) in
+    let k = c.in-Ok.shown.queued in
+    let three = c.in_ok-known.ensures.kept.trusted_before trusted in
+    let two = c.in_ok-landing_count.ensures.kept.trusted_before three in
+    let one = c.in_ok-figures.ensures.kept.trusted_before two in
+    let at_one = c.in_ok-shown.ensures.kept.holds_on one _ x holds in
+    let at_two = c.in_ok-figures.ensures.kept.holds_on two _ x at_one in
+    let at_three = c.in_ok-landing_count.ensures.kept.holds_on three _ x at_two in
+    let o = (subst (IsOrdered s x c.args.order) c.in-Ok.is (c.in_ok-shown.ensures.ordered one x holds lawful)).0 in
     let h = stored s x.state k.queue k.item o.row.stored in
     absurd (change_there s x.state k.queue k.item lawful.lawful.sound h
-    (sym (c.in_ok-known.ensures.found trusted s x at_five lawful) ∙ c.in_default-2.is))
+    (sym (c.in_ok-known.ensures.found trusted s x at_three lawful) ∙ c.in_default-2.is))
 
 pub returns-in-Err-clause-raw : goal.returns-in-Err-clause-raw
 returns-in-Err-clause-raw g c trusted x holds lawful =
     let s = c.args.config.now in
-    subst (IsOrdered s x c.args.order) c.in-Err.is (c.in_ok-queued.ensures.ordered trusted x holds lawful)
+    subst (IsOrdered s x c.args.order) c.in-Err.is (c.in_ok-shown.ensures.ordered trusted x holds lawful)
     (landing s x.state) (delivery.Landed c.args.order) refl
 
-pub returns-in_err-window-clause-kept : goal.returns-in_err-window-clause-kept
-returns-in_err-window-clause-kept g c = then c.in_ok-queued.ensures.kept c.in_err-window.ensures.kept
+pub returns-in_err-figures-clause-kept : goal.returns-in_err-figures-clause-kept
+returns-in_err-figures-clause-kept g c = then c.in_ok-shown.ensures.kept c.in_err-figures.ensures.kept
 
 pub returns-in_default-clause-kept : goal.returns-in_default-clause-kept
-returns-in_default-clause-kept g c = then c.in_ok-queued.ensures.kept c.in_ok-window.ensures.kept
+returns-in_default-clause-kept g c = then c.in_ok-shown.ensures.kept c.in_ok-figures.ensures.kept
 
-pub returns-in_err-landings-clause-kept : goal.returns-in_err-landings-clause-kept
-returns-in_err-landings-clause-kept g c =
-    let two = then c.in_ok-queued.ensures.kept c.in_ok-window.ensures.kept in
-    then two c.in_err-landings.ensures.kept
+pub returns-in_err-landing_count-clause-kept : goal.returns-in_err-landing_count-clause-kept
+returns-in_err-landing_count-clause-kept g c =
+    then (then c.in_ok-shown.ensures.kept c.in_ok-figures.ensures.kept) c.in_err-landing_count.ensures.kept
 
 pub returns-in_err-edits-clause-kept : goal.returns-in_err-edits-clause-kept
 returns-in_err-edits-clause-kept g c =
-    let two = then c.in_ok-queued.ensures.kept c.in_ok-window.ensures.kept in
-    let three = then two c.in_ok-landings.ensures.kept in
-    then three c.in_err-edits.ensures.kept
+    then (then c.in_ok-shown.ensures.kept c.in_ok-figures.ensures.kept) c.in_ok-landing_count.ensures.kept
 
 pub returns-in_err-edits-2-clause-kept : goal.returns-in_err-edits-2-clause-kept
 returns-in_err-edits-2-clause-kept g c =
-    let two = then c.in_ok-queued.ensures.kept c.in_ok-window.ensures.kept in
-    let three = then two c.in_ok-landings.ensures.kept in
-    then three c.in_ok-edits.ensures.kept
-
-pub returns-in_err-plan-clause-kept : goal.returns-in_err-plan-clause-kept
-returns-in_err-plan-clause-kept g c =
-    let two = then c.in_ok-queued.ensures.kept c.in_ok-window.ensures.kept in
-    let three = then two c.in_ok-landings.ensures.kept in
-    let four = then three c.in_ok-edits.ensures.kept in
-    then four c.in_err-plan.ensures.kept
+    then (then c.in_ok-shown.ensures.kept c.in_ok-figures.ensures.kept) c.in_ok-landing_count.ensures.kept
 
 pub returns-in_err-edits-3-clause-kept : goal.returns-in_err-edits-3-clause-kept
 returns-in_err-edits-3-clause-kept g c =
-    let two = then c.in_ok-queued.ensures.kept c.in_ok-window.ensures.kept in
-    let three = then two c.in_ok-landings.ensures.kept in
-    let four = then three c.in_ok-edits.ensures.kept in
-    then four c.in_ok-plan.ensures.kept
+    then (then c.in_ok-shown.ensures.kept c.in_ok-figures.ensures.kept) c.in_ok-landing_count.ensures.kept
 
 pub returns-in_err-known-clause-kept : goal.returns-in_err-known-clause-kept
 returns-in_err-known-clause-kept g c =
-    let two = then c.in_ok-queued.ensures.kept c.in_ok-window.ensures.kept in
-    let three = then two c.in_ok-landings.ensures.kept in
-    let four = then three c.in_ok-edits.ensures.kept in
-    let five = then four c.in_ok-plan.ensures.kept in
-    then five c.in_err-known.ensures.kept
+    let two = then c.in_ok-shown.ensures.kept c.in_ok-figures.ensures.kept in
+    let three = then two c.in_ok-landing_count.ensures.kept in
+    then three c.in_err-known.ensures.kept
 
 pub returns-in_default-2-clause-kept : goal.returns-in_default-2-clause-kept
 returns-in_default-2-clause-kept g c =
-    let two = then c.in_ok-queued.ensures.kept c.in_ok-window.ensures.kept in
-    let three = then two c.in_ok-landings.ensures.kept in
-    let four = then three c.in_ok-edits.ensures.kept in
-    let five = then four c.in_ok-plan.ensures.kept in
-    then five c.in_ok-known.ensures.kept
+    let two = then c.in_ok-shown.ensures.kept c.in_ok-figures.ensures.kept in
+    let three = then two c.in_ok-landing_count.ensures.kept in
+    then three c.in_ok-known.ensures.kept
 
 pub returns-in_err-edits-4-clause-kept : goal.returns-in_err-edits-4-clause-kept
 returns-in_err-edits-4-clause-kept g c =
-    let two = then c.in_ok-queued.ensures.kept c.in_ok-window.ensures.kept in
-    let three = then two c.in_ok-landings.ensures.kept in
-    let four = then three c.in_ok-edits.ensures.kept in
-    let five = then four c.in_ok-plan.ensures.kept in
-    then five c.in_ok-known.ensures.kept
+    let two = then c.in_ok-shown.ensures.kept c.in_ok-figures.ensures.kept in
+    let three = then two c.in_ok-landing_count.ensures.kept in
+    then three c.in_ok-known.ensures.kept
 
 pub returns-clause-kept : goal.returns-clause-kept
 returns-clause-kept g c =
-    let two = then c.in_ok-queued.ensures.kept c.in_ok-window.ensures.kept in
-    let three = then two c.in_ok-landings.ensures.kept in
-    let four = then three c.in_ok-edits.ensures.kept in
-    let five = then four c.in_ok-plan.ensures.kept in
-    then five c.in_ok-known.ensures.kept
+    let two = then c.in_ok-shown.ensures.kept c.in_ok-figures.ensures.kept in
+    let three = then two c.in_ok-landing_count.ensures.kept in
+    then three c.in_ok-known.ensures.kept

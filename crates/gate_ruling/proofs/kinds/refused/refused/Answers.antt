@@ -24,19 +24,19 @@ pub returns-clause-raw : goal.returns-clause-raw
 returns-clause-raw g c trusted x holds lawful =
     let s = c.args.config.now in
     let number = c.args.order in
-    let k = c.in-Ok.queued in
+    let k = c.in-Ok.shown.queued in
     let d = delivery.Refused number in
     let settings : are_sound s ≡ true = search rules in
     let sound = lawful.lawful.sound in
-    let two = c.in_ok-edits.ensures.kept.trusted_before trusted in
-    let one = c.in_ok-window.ensures.kept.trusted_before two in
-    let at_one = c.in_ok-queued.ensures.kept.holds_on one _ x holds in
-    let at_two = c.in_ok-window.ensures.kept.holds_on two _ x at_one in
-    let o = subst (IsOrdered s x number) c.in-Ok.is (c.in_ok-queued.ensures.ordered one x holds lawful) in
+    let one = c.in_ok-figures.ensures.kept.trusted_before trusted in
+    let at_one = c.in_ok-shown.ensures.kept.holds_on one _ x holds in
+    let ordered = subst (IsOrdered s x number) c.in-Ok.is (c.in_ok-shown.ensures.ordered one x holds lawful) in
+    let o = ordered.0 in
+    let figures = c.in_ok-figures.ensures.found trusted s x at_one lawful in
     let h = stored s x.state k.queue k.item o.row.stored in
     let before : c.in-Some.window ≡ h.queue.window =
     same_Some c.in-Some.window h.queue.window
-    (sym c.in-Some.is ∙ c.in_ok-window.ensures.found two s x at_one lawful ∙ window_stored h) in
+    (sym c.in-Some.is ∙ figures.window ∙ window_stored h) in
     let set = c.queue-settings.ensures ∙ ap (λ n. find (λ q. same_name q.name n) s.queues) c.as_str.ensures.value in
     let window = c.window_now-resized.ensures ∙ (λ i. window_now (event.Left verdict.Refused) (bounds_if (set i)) (before i)) in
     let t = leave verdict.Refused k.item.change x.state in
@@ -48,46 +48,42 @@ returns-clause-raw g c trusted x holds lawful =
       accepted = refused_raw s x.state number k o;
       acts = refl;
       touches = subst (λ y. Touches s x.state d (Some y)) (sym c.touched.ensures)
-          (refused_touches s x.state number k o);
+          (refused_touches s x.state number k c.in_ok-figures.figures o figures);
       moves = subst (λ es. Moves x es u) (sym edits)
           (moves_on x t u c.in_ok-edits.edits.items (window_edits k.queue h.queue.window c.window_now-resized.result)
-          (c.in_ok-edits.ensures.moves trusted x at_two lawful o.row.stored)
+          (c.in_ok-edits.ensures x lawful o.row.stored figures.reports (c.as_slice.ensures ∙ ordered.2))
           (shrinks s x k settings sound h c.window_now-resized.result window));
-      unplaced = tt;
+      makes_ready = tt;
     }
 
 pub returns-in_default-clause-undamaged : goal.returns-in_default-clause-undamaged
 returns-in_default-clause-undamaged g c trusted x holds lawful =
     let s = c.args.config.now in
-    let k = c.in-Ok.queued in
-    let before = c.in_ok-window.ensures.kept.trusted_before trusted in
-    let held = c.in_ok-queued.ensures.kept.holds_on before _ x holds in
-    let o = subst (IsOrdered s x c.args.order) c.in-Ok.is (c.in_ok-queued.ensures.ordered before x holds lawful) in
+    let k = c.in-Ok.shown.queued in
+    let before = c.in_ok-figures.ensures.kept.trusted_before trusted in
+    let held = c.in_ok-shown.ensures.kept.holds_on before _ x holds in
+    let o = (subst (IsOrdered s x c.args.order) c.in-Ok.is (c.in_ok-shown.ensures.ordered before x holds lawful)).0 in
     let h = stored s x.state k.queue k.item o.row.stored in
     absurd (window_there s x.state k.queue k.item h
-    (sym (c.in_ok-window.ensures.found trusted s x held lawful) ∙ c.in_default.is))
+    (sym (c.in_ok-figures.ensures.found trusted s x held lawful).window ∙ c.in_default.is))
 
 pub returns-in-Err-clause-raw : goal.returns-in-Err-clause-raw
 returns-in-Err-clause-raw g c trusted x holds lawful =
     let s = c.args.config.now in
-    subst (IsOrdered s x c.args.order) c.in-Err.is (c.in_ok-queued.ensures.ordered trusted x holds lawful)
+    subst (IsOrdered s x c.args.order) c.in-Err.is (c.in_ok-shown.ensures.ordered trusted x holds lawful)
     (refusing s x.state) (delivery.Refused c.args.order) refl
 
-pub returns-in_err-window-clause-kept : goal.returns-in_err-window-clause-kept
-returns-in_err-window-clause-kept g c = then c.in_ok-queued.ensures.kept c.in_err-window.ensures.kept
+pub returns-in_err-figures-clause-kept : goal.returns-in_err-figures-clause-kept
+returns-in_err-figures-clause-kept g c = then c.in_ok-shown.ensures.kept c.in_err-figures.ensures.kept
 
 pub returns-in_default-clause-kept : goal.returns-in_default-clause-kept
-returns-in_default-clause-kept g c = then c.in_ok-queued.ensures.kept c.in_ok-window.ensures.kept
+returns-in_default-clause-kept g c = then c.in_ok-shown.ensures.kept c.in_ok-figures.ensures.kept
 
 pub returns-in_err-edits-clause-kept : goal.returns-in_err-edits-clause-kept
-returns-in_err-edits-clause-kept g c =
-    let two = then c.in_ok-queued.ensures.kept c.in_ok-window.ensures.kept in
-    then two c.in_err-edits.ensures.kept
+returns-in_err-edits-clause-kept g c = then c.in_ok-shown.ensures.kept c.in_ok-figures.ensures.kept
 
 pub returns-in_err-with_window-clause-kept : goal.returns-in_err-with_window-clause-kept
-returns-in_err-with_window-clause-kept g c =
-    let two = then c.in_ok-queued.ensures.kept c.in_ok-window.ensures.kept in
-    then two c.in_ok-edits.ensures.kept
+returns-in_err-with_window-clause-kept g c = then c.in_ok-shown.ensures.kept c.in_ok-figures.ensures.kept
 
 pub returns-clause-kept : goal.returns-clause-kept
-returns-clause-kept g c = then (then c.in_ok-queued.ensures.kept c.in_ok-window.ensures.kept) c.in_ok-edits.ensures.kept
+returns-clause-kept g c = then c.in_ok-shown.ensures.kept c.in_ok-figures.ensures.kept

@@ -18,21 +18,25 @@ returns-clause-raw g c trusted x holds lawful =
     let e = c.args.ending in
     let b = c.in-Some.known in
     let settings : are_sound s ≡ true = search rules in
-    let before = c.in_ok-item.ensures.kept.trusted_before trusted in
-    let held = c.in_ok-known.ensures.kept.holds_on before _ x holds in
-    let known : build_of x.state n ≡ Some b = sym (c.in_ok-known.ensures.found before s x holds lawful)
+    let two = c.in_ok-figures.ensures.kept.trusted_before trusted in
+    let one = c.in_ok-item.ensures.kept.trusted_before two in
+    let at_one = c.in_ok-known.ensures.kept.holds_on one _ x holds in
+    let at_two = c.in_ok-item.ensures.kept.holds_on two _ x at_one in
+    let known : build_of x.state n ≡ Some b = sym (c.in_ok-known.ensures.found one s x holds lawful)
     ∙ c.in-Some.is in
     let item : item_at s x.state b.serial ≡ Some c.in-Some-2.item =
-    sym (c.in_ok-item.ensures.found trusted s x held lawful) ∙ c.in-Some-2.is in
+    sym (c.in_ok-item.ensures.found two s x at_one lawful) ∙ c.in-Some-2.is in
+    let figures = c.in_ok-figures.ensures.found trusted s x at_two lawful in
     let runs : b.live && is_running b.outcome ≡ true = sym c.is_under_way.ensures ∙ c.if-not-is_under_way.false in
     record {
       after = end_build e n x.state;
       accepted = ended_raw x.state n e b known runs;
       acts = refl;
       touches = subst (Touches s x.state (delivery.Result n e)) (sym c.in_ok-left.ensures.touched)
-          (ended_touches s x.state n e b c.in-Some-2.item settings lawful.lawful.sound known item);
+          (ended_touches s x.state n e b c.in-Some-2.item c.in_ok-figures.figures settings lawful.lawful.sound known
+          item figures);
       moves = subst (λ es. Moves x es (end_build e n x.state)) (sym c.in_ok-left.ensures.edits) (ended_moves x n e);
-      unplaced = tt;
+      makes_ready = tt;
     }
 
 pub returns-in_default-2-clause-undamaged : goal.returns-in_default-2-clause-undamaged
@@ -54,11 +58,17 @@ returns-in_err-item-clause-kept g c = then c.in_ok-known.ensures.kept c.in_err-i
 pub returns-in_default-2-clause-kept : goal.returns-in_default-2-clause-kept
 returns-in_default-2-clause-kept g c = then c.in_ok-known.ensures.kept c.in_ok-item.ensures.kept
 
+pub returns-in_err-figures-clause-kept : goal.returns-in_err-figures-clause-kept
+returns-in_err-figures-clause-kept g c =
+    then (then c.in_ok-known.ensures.kept c.in_ok-item.ensures.kept) c.in_err-figures.ensures.kept
+
 pub returns-in_err-left-clause-kept : goal.returns-in_err-left-clause-kept
-returns-in_err-left-clause-kept g c = then c.in_ok-known.ensures.kept c.in_ok-item.ensures.kept
+returns-in_err-left-clause-kept g c =
+    then (then c.in_ok-known.ensures.kept c.in_ok-item.ensures.kept) c.in_ok-figures.ensures.kept
 
 pub returns-clause-kept : goal.returns-clause-kept
-returns-clause-kept g c = then c.in_ok-known.ensures.kept c.in_ok-item.ensures.kept
+returns-clause-kept g c =
+    then (then c.in_ok-known.ensures.kept c.in_ok-item.ensures.kept) c.in_ok-figures.ensures.kept
 
 pub returns-in_default-clause-raw : goal.returns-in_default-clause-raw
 returns-in_default-clause-raw g c trusted x holds lawful =

@@ -13,8 +13,7 @@ use Rattle.gate_types.specs.SubmitOrder.{is_submitting}
 use Rattle.gate_types.specs.Step.{leave, revised, has_project, is_known_and}
 use Rattle.gate_types.specs.Limits.{most_needs}
 use Rattle.gate_book_trait.proofs.KeptLemmas.{then}
-use Rattle.gate_reads.specs.Touches.{Touches}
-use Rattle.gate_ruling.proofs.GivenUp.{given_up}
+use Rattle.gate_ruling.proofs.GivenUp.{given_up, submitting_so}
 use Rattle.gate_ruling.proofs.Closed.{revision_raw}
 use Rattle.gate_ruling.proofs.kinds.revision.revision.Goals as goal
 
@@ -26,12 +25,10 @@ returns-clause-raw g c trusted x holds lawful =
     let name = c.args.project.now in
     let message = c.args.message.now in
     let d = delivery.Revision n name r message in
-    let three = c.in_ok-left.ensures.kept.trusted_before trusted in
-    let two = c.in_ok-stand.ensures.kept.trusted_before three in
-    let one = c.in_ok-is_submitting.ensures.kept.trusted_before two in
+    let two = c.in_ok-left.ensures.kept.trusted_before trusted in
+    let one = c.in_ok-place.ensures.kept.trusted_before two in
     let at_one = c.in_ok-known.ensures.kept.holds_on one _ x holds in
-    let at_two = c.in_ok-is_submitting.ensures.kept.holds_on two _ x at_one in
-    let at_three = c.in_ok-stand.ensures.kept.holds_on three _ x at_two in
+    let at_two = c.in_ok-place.ensures.kept.holds_on two _ x at_one in
     let known : c.in_ok-known.known ≡ known_change x.state n = c.in_ok-known.ensures.found one s x holds lawful in
     let there : has_project s name ≡ true = sym c.has_project.ensures ∙ c.if-not-has_project.false in
     let own : is_known_and x.state n (λ k. not (same_name k.project name)) ≡ false =
@@ -40,8 +37,9 @@ returns-clause-raw g c trusted x holds lawful =
     let late : is_known_and x.state n (λ k. nat_le r k.revision || is_landed k) ≡ false =
     ap (λ o. option_map_or (λ (k : Change). nat_le r k.revision || is_landed k) o false) (sym known)
     ∙ sym c.is_late.ensures ∙ c.if-is_late.false in
+    let so = c.in_ok-place.ensures.found two x at_one lawful in
     let free : is_submitting s x.state n ≡ false =
-    sym (c.in_ok-is_submitting.ensures.found two x at_one lawful) ∙ c.if-branch.false in
+    submitting_so s x.state n c.in_ok-place.place so ∙ sym c.is_submitting.ensures ∙ c.if-is_submitting.false in
     let base : c.as_str.result.now ≡ s.base = c.as_str.ensures.value ∙ ap (λ (v : Settings). v.base) c.config.view_is in
     let texts : needs c.as_str.result.now c.as_str-2.result.now ≡ needs s.base message =
     (λ i. needs (base i) (c.as_str-2.ensures.value i)) in
@@ -63,52 +61,38 @@ returns-clause-raw g c trusted x holds lawful =
       needs =
           listed i;
     }) in
-    let so = c.in_ok-stand.ensures.found three x at_two lawful in
+    let touched = c.in_ok-left.ensures.touched trusted x at_two lawful n so free in
     record {
       after = revised k x.state;
       accepted = revision_raw s x.state n name r message there own late free few k is;
       acts = refl;
-      touches = subst (Touches s x.state d) (sym c.in_ok-left.ensures.touched)
-          (given_up s x.state d n verdict.Superseded c.in_ok-stand.stand so refl refl (λ i. refl));
+      touches = given_up s x.state d n verdict.Superseded c.in_ok-left.left.touched touched refl refl (λ i. refl);
       moves = c.in_ok-edits.ensures x (leave verdict.Superseded n x.state) lawful.lawful.sound.changes_rise
-          (c.in_ok-left.ensures.moves trusted x at_three lawful n so);
-      unplaced = tt;
+          (c.in_ok-left.ensures.moves trusted x at_two lawful n so free);
+      makes_ready = tt;
     }
 
-pub returns-in_err-is_submitting-clause-kept : goal.returns-in_err-is_submitting-clause-kept
-returns-in_err-is_submitting-clause-kept g c = then c.in_ok-known.ensures.kept c.in_err-is_submitting.ensures.kept
+pub returns-in_err-place-clause-kept : goal.returns-in_err-place-clause-kept
+returns-in_err-place-clause-kept g c = then c.in_ok-known.ensures.kept c.in_err-place.ensures.kept
 
-pub returns-in_err-stand-clause-kept : goal.returns-in_err-stand-clause-kept
-returns-in_err-stand-clause-kept g c =
-    let two = then c.in_ok-known.ensures.kept c.in_ok-is_submitting.ensures.kept in
-    then two c.in_err-stand.ensures.kept
+pub returns-then-is_submitting-clause-kept : goal.returns-then-is_submitting-clause-kept
+returns-then-is_submitting-clause-kept g c = then c.in_ok-known.ensures.kept c.in_ok-place.ensures.kept
+
+pub returns-in-Err-TooManyNeeds-clause-kept : goal.returns-in-Err-TooManyNeeds-clause-kept
+returns-in-Err-TooManyNeeds-clause-kept g c = then c.in_ok-known.ensures.kept c.in_ok-place.ensures.kept
 
 pub returns-in_err-left-clause-kept : goal.returns-in_err-left-clause-kept
 returns-in_err-left-clause-kept g c =
-    let two = then c.in_ok-known.ensures.kept c.in_ok-is_submitting.ensures.kept in
-    let three = then two c.in_ok-stand.ensures.kept in
-    then three c.in_err-left.ensures.kept
-
-pub returns-then-branch-clause-kept : goal.returns-then-branch-clause-kept
-returns-then-branch-clause-kept g c = then c.in_ok-known.ensures.kept c.in_ok-is_submitting.ensures.kept
-
-pub returns-in-Err-TooManyNeeds-clause-kept : goal.returns-in-Err-TooManyNeeds-clause-kept
-returns-in-Err-TooManyNeeds-clause-kept g c = then c.in_ok-known.ensures.kept c.in_ok-is_submitting.ensures.kept
+    then (then c.in_ok-known.ensures.kept c.in_ok-place.ensures.kept) c.in_err-left.ensures.kept
 
 pub returns-in_err-copy-clause-kept : goal.returns-in_err-copy-clause-kept
 returns-in_err-copy-clause-kept g c =
-    let two = then c.in_ok-known.ensures.kept c.in_ok-is_submitting.ensures.kept in
-    let three = then two c.in_ok-stand.ensures.kept in
-    then three c.in_ok-left.ensures.kept
+    then (then c.in_ok-known.ensures.kept c.in_ok-place.ensures.kept) c.in_ok-left.ensures.kept
 
 pub returns-in_err-edits-clause-kept : goal.returns-in_err-edits-clause-kept
 returns-in_err-edits-clause-kept g c =
-    let two = then c.in_ok-known.ensures.kept c.in_ok-is_submitting.ensures.kept in
-    let three = then two c.in_ok-stand.ensures.kept in
-    then three c.in_ok-left.ensures.kept
+    then (then c.in_ok-known.ensures.kept c.in_ok-place.ensures.kept) c.in_ok-left.ensures.kept
 
 pub returns-clause-kept : goal.returns-clause-kept
 returns-clause-kept g c =
-    let two = then c.in_ok-known.ensures.kept c.in_ok-is_submitting.ensures.kept in
-    let three = then two c.in_ok-stand.ensures.kept in
-    then three c.in_ok-left.ensures.kept
+    then (then c.in_ok-known.ensures.kept c.in_ok-place.ensures.kept) c.in_ok-left.ensures.kept

@@ -49,5 +49,5 @@ returns-clause-raw g c trusted x holds lawful =
       touches = refl;
       moves = subst (λ es. Moves x es (with_build b x.state)) (sym c.in_ok-edits.ensures)
           (taken_moves s x b lawful.lawful.sound chosen);
-      unplaced = tt;
+      makes_ready = tt;
     }
