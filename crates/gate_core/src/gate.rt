@@ -2,14 +2,15 @@
 ghost use Rattle.std.specs.Prelude.{◌≡◌, ◌⊎◌, false, true, None, Some, option_map, string_bytes};
 ghost use Rattle.std.specs.Prelude.{IfOk, IfErr, OnOk, MatchResult};
 ghost use Rattle.gate_types.specs.BuildText.{build_text};
-ghost use Rattle.gate_types.specs.Once.{Content, is_unavailable};
+ghost use Rattle.gate_types.specs.Once.{Content, empty, is_unavailable};
 ghost use Rattle.gate_types.specs.OrderList.{order_list_text};
 ghost use Rattle.gate_types.specs.Status.{status_text};
 ghost use Rattle.gate_types.specs.Step.{build_of};
 ghost use Rattle.gate_types.specs.Tap.{has_failed};
 ghost use Rattle.gate_book_trait.specs.Writes.{WritesHistory, Stops};
 ghost use Rattle.gate_core.specs.Answered.{Answered, call};
-ghost use Rattle.gate_core.specs.Holding.{GateHolds, OfGate, OfBook, IsKeptGate, book_of, recent_of, settings_of};
+ghost use Rattle.gate_core.specs.Holding.{GateHolds, IsKeptGate, IsNew, OfBook, OfGate};
+ghost use Rattle.gate_core.specs.Holding.{book_of, recent_of, settings_of};
 ghost use Rattle.gate_core.specs.Landing.{LandsRightly};
 ghost use Rattle.gate_core.specs.Recent.{AfterFault, AfterRefusal, KeepsButOrders, KeepsButStatus, KeepsNothing};
 
@@ -66,6 +67,7 @@ impl<B: Book> Gate<B> {
         ensures config { settings_of result ≡ config }
         ensures book { book_of result ≡ book }
         ensures holds { (x : Content) → B.Holds book config x → GateHolds B.Holds result x }
+        ensures anew { B.Holds book config (empty config) → IsNew B.Holds result }
     {
         Gate {
             config,

@@ -152,8 +152,8 @@ pub(crate) fn front_of(form: Form) -> &'static str
     }
 }
 
-/// Writes an answer: if it is a response, a head for a content of `len` bytes; then the content, or nothing. The room is
-/// that for the head.
+/// Writes an answer: if it is a response, a head for a content of `len` bytes; then the content, or nothing. The room
+/// is that for the head.
 pub(crate) fn write_answer<W: Write>(
     writer: &mut Tap<W>,
     room: &mut Vec<u8>,

@@ -62,8 +62,8 @@ fn first_above(rows: &[Item], serial: u64) -> Option<&Item>
     rows.iter().find(|row| serial < row.serial.get())
 }
 
-/// The rows of a queue, behind the one that was taken last, whose changes need one of the first `asked` changes that have
-/// gone, front to back.
+/// The rows of a queue, behind the one that was taken last, whose changes need one of the first `asked` changes that
+/// have gone, front to back.
 #[derive(Drop)]
 pub struct Needing {
     pub rows: Vec<Item>,

@@ -82,8 +82,8 @@ BreaksTo c _ before after old new = ⊥
 -- ---- a text
 
 -- a text of the gate of a file, which stays as it is, isn't printed whole; or it is, and the file can't be closed
-abbrev pub IsNotShown : {W : Type 0} → Settings → Shown → (W → Option (List ℕ)) → Tap W → Tap W → Fault → State → State →
-    Type 0
+abbrev pub IsNotShown : {W : Type 0} → Settings → Shown → (W → Option (List ℕ)) → Tap W → Tap W → Fault → State →
+    State → Type 0
 IsNotShown c s held from to f old new = GoesOver old new c (λ g after. (after ≡ g)
     × (Writes s g held from to (Err f) ⊎ ((f ≡ fault.Store) × Writes s g held from to (Ok tt)))
     × LeavesAfter new c g [])

@@ -27,8 +27,8 @@ pub trait GateFiles {
     // the file at this path was opened in one state and closed in another, and this is so of the two
     ghost Led: { List ℕ → (State → State → Type 0) → Type 0 };
 
-    // the file at this path couldn't be opened, and this is so; or it was opened in one state and given back to be closed
-    // in another, which succeeded or not, and this is so of the two
+    // the file at this path couldn't be opened, and this is so; or it was opened in one state and given back to be
+    // closed in another, which succeeded or not, and this is so of the two
     ghost Left: { List ℕ → Type 0 → (State → State → Type 0) → Type 0 };
 
     /// Makes the tables of a new gate in a file, which is made where it isn't there. `File` as for `SqlBook::create`,
@@ -63,8 +63,8 @@ pub trait GateFiles {
             (streams R.remaining W.contents input.old output.old)
             (streams R.remaining W.contents input.new output.new))) };
 
-    /// Prints a text of the gate that a file keeps. `File` as for `deliver`; else as for `showing::write_shown`; `Store`
-    /// also where all is printed and the file can't be closed.
+    /// Prints a text of the gate that a file keeps. `File` as for `deliver`; else as for `showing::write_shown`;
+    /// `Store` also where all is printed and the file can't be closed.
     fn show<W: Write>(
         &self,
         file: &str,
