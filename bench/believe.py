@@ -20,7 +20,7 @@ from pathlib import Path
 
 sys.path.insert(0, str(Path(__file__).resolve().parents[1]))
 from bench.pieces import Piece, Pieces  # noqa: E402
-from bench.promised import PROMISES, Promise  # noqa: E402
+from bench.promised import PINNED, PROMISES, Promise  # noqa: E402
 
 TOP = Path(__file__).resolve().parents[1]
 PAGE = "docs/READING.md"
@@ -38,21 +38,28 @@ class Believed:
         self.uses: dict[str, set[str]] = {}
         self.libs: dict[Path, list[str]] = {}
 
-    def closure(self, roots: Iterable[Piece]) -> dict[str, Piece]:
-        """The roots with all that they stand on, by key."""
+    def closure(self, roots: Iterable[Piece], tokens: Iterable[str] = ()) -> dict[str, Piece]:
+        """The roots with all that they stand on, by key; in place of a definition that a law pins, that law. Tokens
+        are left out, with what only they stand on."""
+        unread = {*tokens}
         todo, seen = list(roots), dict[str, Piece]()
         while todo:
-            piece = todo.pop()
+            piece = self.read_for(todo.pop())
             if piece.key not in seen:
                 seen[piece.key] = piece
                 if piece.key not in self.uses:
                     self.uses[piece.key] = self.pieces.uses(piece)
-                todo += [self.pieces.pieces[key] for key in self.uses[piece.key]]
+                todo += [self.pieces.pieces[key] for key in self.uses[piece.key] - unread]
         return seen
+
+    def read_for(self, piece: Piece) -> Piece:
+        """What is read for a piece: itself, or the law that pins it."""
+        law = PINNED.get(piece.key)
+        return self.pieces.contract(law) if law else piece
 
     def of(self, promise: Promise) -> dict[str, Piece]:
         return self.closure([*map(self.pieces.contract, promise.contracts),
-                             *(self.pieces.pieces[key] for key in promise.members)])
+                             *(self.pieces.pieces[key] for key in promise.members)], promise.tokens)
 
     def place(self, piece: Piece) -> tuple[bool, int, int, str, int]:
         """Where a piece stands if nothing forbids it: by crate, its code, then its specs as their `Lib` lists them."""

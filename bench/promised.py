@@ -1,7 +1,8 @@
 """The contracts that carry each promise of docs/PROMISES.md, in the order in which docs/READING.md goes through them.
 
 A contract is the path of its file, its function and the clauses that carry the promise (without any: all of them). A
-member is a ghost member of an impl, by which a trait's contract is read at one type.
+member is a ghost member of an impl, by which a trait's contract is read at one type. A token is a definition that one
+of the contracts gives and another asks for: the promise holds whatever it says.
 """
 from __future__ import annotations
 
@@ -15,6 +16,7 @@ class Promise:
     title: str
     contracts: tuple[str, ...]
     members: tuple[str, ...] = ()
+    tokens: tuple[str, ...] = ()
 
 
 def each(path: str, names: str) -> tuple[str, ...]:
@@ -22,8 +24,7 @@ def each(path: str, names: str) -> tuple[str, ...]:
     return tuple(f"{path}.{name}" for name in names.split())
 
 
-LANDS = ("gate_core.gate.deliver lands", "gate_types.config.show_sound",
-         *each("gate_laws.landings", "every_change_lands_at_most_once every_landing_is_shown"))
+LANDS = each("gate_laws.landings", "every_change_lands_at_most_once every_landing_is_shown")
 ONCE = ("gate_core.replaying.calls_are_answered", "gate_types.laws.only_acting_deliveries_count")
 IN_MEMORY = tuple(f"gate_book.memory.MemBook.Book.{it}" for it in ("Holds", "IsTrusted", "LeavesOneOf"))
 IN_A_FILE = tuple(f"gate_sql.reads.SqlBook.Book.{it}" for it in ("Holds", "IsTrusted", "LeavesOneOf", "MayFault"))
@@ -35,9 +36,14 @@ READS = ("delivery change window item_count landing_count reports landing_before
 PROMISES = (
     Promise("What lands", "What lands", LANDS),
     Promise("The headline", "The headline, in memory",
-            ("gate_core.replaying.replay ok", "gate_book.memory.new", *ONCE, *LANDS), IN_MEMORY),
-    Promise("The headline", "The headline, over a file", ("gated_cli.run.over_file.deliver ok", *ONCE, *LANDS)),
+            ("gate_core.replaying.replay anew", "gate_core.gate.new anew", "gate_book.memory.new",
+             "gate_types.config.show_sound", *ONCE, *LANDS), IN_MEMORY,
+            ("Rattle.gate_book.specs.Memory.held", "gate_book.memory.MemBook.Model.Value",
+             "Rattle.gate_core.specs.Holding.IsNew", "gate_core.recent.Recent")),
+    Promise("The headline", "The headline, over a file",
+            ("gated_cli.run.over_file.deliver ok", "gate_types.config.show_sound", *ONCE, *LANDS)),
     Promise("What lands", "What lands: its other laws", (
+        "gate_core.gate.deliver lands",
         *each("gate_laws.runs", "start_is_lawful step_is_lawful run_is_lawful start_with_is_lawful raw_step_is_sound"),
         *each("gate_laws.settling", "rebase_is_sound sweep_is_sound admit_is_sound settle_is_sound settling_settles"),
         *each("gate_laws.rest", "settled_is_at_rest rest_is_settled live_builds_count live_builds_are_wanted"),
@@ -83,6 +89,10 @@ PROMISES = (
         "gated_command.words.command", "gated_cli.run.run", "gated_cli.entry.program"),
         ("gated_cli.machine.M.GateFiles.Led",)),
 )
+# Definitions that a law gives the only value that they can have, so that the law is read in their place: what the texts
+# of the tables make.
+PINNED = {f"Rattle.gate_schema.specs.Schema.{name}": "gate_schema.laws.the_texts_make_the_schema"
+          for name in ("gate_tables", "gate_indexes")}
 # Laws that compute an example: no promise stands on them.
 EXAMPLES = {"paths_have_routes", "the_example_is_read", "the_post_is_read", "the_example_is_answered"}
 # What no list is made of, and why.

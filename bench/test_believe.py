@@ -5,10 +5,11 @@ import contextlib
 import io
 import re
 import unittest
+from dataclasses import replace
 
 from bench import believe
 from bench.believe import Believed
-from bench.promised import EXAMPLES, LANDS, NONE, PROMISES
+from bench.promised import EXAMPLES, LANDS, NONE, PINNED, PROMISES
 from bench.written import written
 
 FILES = {
@@ -170,6 +171,25 @@ class Page(unittest.TestCase):
         self.maxDiff = 4000
         self.assertEqual(believe.parts_of(self.page)[1].splitlines(), believe.lists(believe.TOP).splitlines(),
                          "put the new lists there: python3 bench/believe.py --write")
+
+    def test_a_law_stands_in_place_of_what_it_pins(self) -> None:
+        believed = Believed(believe.TOP)
+        found = [believed.of(promise).keys() for promise in PROMISES]
+        for pinned, law in PINNED.items():
+            with self.subTest(pinned):
+                named = [key for key, uses in believed.uses.items() if pinned in uses]
+                self.assertTrue(any(key in own and law in own for key in named for own in found))
+                self.assertFalse(any(pinned in own for own in found))
+
+    def test_a_token_would_be_read_otherwise(self) -> None:
+        believed = Believed(believe.TOP)
+        for promise in PROMISES:
+            own = believed.of(promise)
+            whole = believed.of(replace(promise, tokens=()))
+            for token in promise.tokens:
+                with self.subTest(promise.title, token=token):
+                    self.assertIn(token, whole)
+                    self.assertNotIn(token, own)
 
     def test_each_quotation_stands_in_its_file(self) -> None:
         front = believe.parts_of(self.page)[0]
