@@ -4,8 +4,8 @@
 //! change that it needs: a `-` stands for neither. `item 4 102` puts an item of `core` and its change, and
 //! `plan 2 fast unit -docs` what it is admitted with, where a `-` stands before a job that doesn't vote; `land 1 1 100`
 //! and `report 1 1 100 landed 1` put a landing and a report at their place, `build 1 2 101` a build of an item, that
-//! runs, and `keep 9 first` a reply under an id. `drop 2`, `stop 1`, `end 2 failure`, `window 5` and `order 4` are the
-//! other edits.
+//! runs, and `keep 9 first` a reply under an id. `drop 2`, `landed 2`, `stage 103 closed`, `stop 1`, `end 2 failure`,
+//! `window 5` and `order 4` are the other edits.
 use crate::words::{build, change, name, number, path_name, revision, serial, size, word};
 use gate_types::config::Job;
 use gate_types::edits::{Counter, Edit};
@@ -70,6 +70,14 @@ fn put_change(rt: &(impl Abort + AllocGlobal), words: &mut SplitWhitespace) -> E
             needs: needs(rt, some_number(rt, words)),
         },
         approval,
+    }
+}
+
+fn stage(rt: &impl Abort, words: &mut SplitWhitespace) -> Stage {
+    match word(rt, words) {
+        "landed" => Stage::Landed,
+        "closed" => Stage::Closed,
+        word => panic!(rt; "no stage: {word}"),
     }
 }
 
@@ -189,7 +197,12 @@ fn edit_in(rt: &(impl Abort + AllocGlobal), kind: &str, words: &mut SplitWhitesp
 fn edit(rt: &(impl Abort + AllocGlobal), words: &mut SplitWhitespace) -> Edit {
     match word(rt, words) {
         "change" => put_change(rt, words),
+        "stage" => Edit::SetStage {
+            change: change(rt, words),
+            stage: stage(rt, words),
+        },
         "drop" => Edit::DropItem(serial(rt, words)),
+        "landed" => Edit::LandItem(serial(rt, words)),
         "plan" => Edit::PutPlan(plan(rt, words)),
         "build" => put_build(rt, words),
         "end" => Edit::SetOutcome {

@@ -73,6 +73,17 @@ change 103 = 103 1
 
 below, asked 9
 
+# the stage of a change is set, which is let go then
+live over first
+
+settings core/10/1 lib@core = taken
+put stage 103 landed = done
+ready = none
+approval 103 = none
+change 103 = 103 1 landed
+
+below, asked 8
+
 # a change that is admitted stays held
 live over first
 

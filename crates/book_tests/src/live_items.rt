@@ -92,7 +92,7 @@ live 2 = 1 running, 2 running
 live 4 = none
 plans core 0 4 = 2 fast unit -docs, 4 slow unit
 builds core 0 4 = 1 running, 2 running
-put drop 2; plan 2 slow unit -docs = done
+put landed 2 = done
 
 twice
 plan 2 = 2 slow unit -docs

@@ -80,6 +80,26 @@ plan 1 = 1 slow -docs unit
 plan 2 = 2 slow unit -docs
 plan 4 = 4 fast -docs site
 
+# a stage is set: the change is ready no longer, and needs what it did; one that isn't known stays so
+memory
+
+put first = done
+put stage 102 closed; stage 103 landed; stage 104 closed = done
+change 102 = 102 1 needs 101 closed
+change 103 = 103 1 landed
+change 104 = none
+approval 103 = none
+ready = none
+
+# an item lands, and its plan keeps its jobs alone
+memory
+
+put first = done
+put landed 2 = done
+item 2 = none
+plan 2 = 2 slow unit -docs
+plan 4 = 4 slow unit
+
 # later edits are read back: an item leaves, one of its builds stops, the other fails, a change is no longer ready
 memory
 

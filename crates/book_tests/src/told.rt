@@ -2,7 +2,7 @@
 use gate_book::{BookFault, QueuedItem};
 use gate_types::config::Job;
 use gate_types::numbers::ChangeNo;
-use gate_types::records::{Build, Change, Item, Kept, Plan, Ready};
+use gate_types::records::{Build, Change, Item, Kept, Plan, Ready, Stage};
 use gate_types::sequence::Sequence;
 use std::process::Abort;
 
@@ -60,12 +60,15 @@ fn tell_needs(rt: &impl Abort, told: &mut String, needs: &[ChangeNo]) {
     }
 }
 
-/// Its number and its revision, and what it needs.
+/// Its number and its revision, what it needs, and its stage unless it is open.
 impl Told for Change {
     fn tell(&self, rt: &impl Abort, told: &mut String) {
         let (number, revision) = (self.number.get(), self.revision.get());
         write!(told, "{number} {revision}").expect(rt, "memory");
         tell_needs(rt, told, self.needs.as_slice());
+        if self.stage != Stage::Open {
+            write!(told, " {}", self.stage.word()).expect(rt, "memory");
+        }
     }
 }
 

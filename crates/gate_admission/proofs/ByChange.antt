@@ -86,7 +86,9 @@ put_own name n rows r (edit.PutItem q i) up m t puts =
     (ap (λ (x : ItemRow). x.change == n) puts.1 ∙ t)
     ∙ ap (λ (x : ItemRow). item_if n x.serial rows) puts.1 ∙ at_own n rows r up m t
 put_own name n rows r (edit.DropItem k) up m t puts = absurd puts
+put_own name n rows r (edit.LandItem k) up m t puts = absurd puts
 put_own name n rows r (edit.PutChange k a) up m t puts = absurd puts
+put_own name n rows r (edit.SetStage k g) up m t puts = absurd puts
 put_own name n rows r (edit.PutPlan k) up m t puts = absurd puts
 put_own name n rows r (edit.PutLanding q p l) up m t puts = absurd puts
 put_own name n rows r (edit.PutReport q p l) up m t puts = absurd puts

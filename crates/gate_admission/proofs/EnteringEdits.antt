@@ -12,6 +12,7 @@ use Rattle.gate_types.specs.declared.records.Change.{Change}
 use Rattle.gate_types.specs.declared.records.Item.{Item as ItemRow}
 use Rattle.gate_types.specs.declared.records.Plan.{Plan}
 use Rattle.gate_types.specs.declared.records.Ready.{Ready}
+use Rattle.gate_types.specs.declared.records.Stage.{Stage}
 use Rattle.gate_types.specs.declared.rows.ChangeRow.{ChangeRow}
 use Rattle.gate_types.specs.declared.edits.Edit.{Edit}
 use Rattle.gate_types.specs.declared.edits.Edit.TheVariants as edit
@@ -24,7 +25,7 @@ use Rattle.gate_types.specs.Rows.{item_rows}
 use Rattle.gate_types.specs.Admit.{may_enter, with_item, next_item, next_plan, entered}
 use Rattle.gate_types.specs.Lawful.{IsSound}
 use Rattle.gate_types.specs.Tables.{Tables, QueueRows, tables, queue_rows, change_row, approval_of, edited_queue}
-use Rattle.gate_types.specs.Tables.{edited_tables, fold_all}
+use Rattle.gate_types.specs.Tables.{at_stage, change_known, edited_tables, fold_all}
 use Rattle.gate_types.specs.Keys.{number_of_change, serial_of_item}
 use Rattle.gate_types.specs.Rising.{In}
 use Rattle.gate_types.proofs.NameLemmas.{same_name_is}
@@ -35,6 +36,7 @@ use Rattle.gate_laws.proofs.Counts.{times, times-append, distinct_to}
 use Rattle.gate_laws.proofs.Alone.{changes_once, item_changes, name_alone, same_name_of}
 use Rattle.gate_laws.proofs.Drawn.{item_drawn, build_drawn}
 use Rattle.gate_laws.proofs.AdmitIsSound.{one_sound}
+use Rattle.gate_reads.specs.Moves.{in_state}
 use Rattle.gate_admission.specs.Led.{IsLed}
 use Rattle.gate_admission.specs.Seen.{ready_without}
 use Rattle.gate_admission.specs.Enters.{entering_row, entering_edits}
@@ -107,6 +109,56 @@ changes_enter n rs k (j ∷ js) up e = by_test (j.number == n) refl e (changes_e
         (cond (le-ltb k.number j.number (omega (arith, higher)) i) (row ∷ change_row rs j ∷ map (change_row rs) js)
         (change_row rs j ∷ put_by number_of_change row (map (change_row rs) js))))
         ∙ (λ i. other_row n rs j other i ∷ later f i)
+
+-- where its stage is set
+staged_row : (n : ℕ) (g : Stage) (rs : List Ready) (j : Change) → (j.number ≡ n → j.stage ≡ g) →
+    cond (j.number == n) (at_stage g (change_row rs j)) (change_row rs j) ≡ change_row (ready_without n rs) j
+staged_row n g rs j its = by_test (j.number == n) refl
+  where
+    by_test : (b : Bool) → j.number == n ≡ b →
+        cond b (at_stage g (change_row rs j)) (change_row rs j) ≡ change_row (ready_without n rs) j
+    by_test true t =
+        let number : j.number ≡ n = eqb-true j.number n t in
+        λ i. record {
+          change = record j { stage = sym (its number) i };
+          approval = sym (approval_without n j.number rs
+              ∙ ap (λ b. cond b None (approval_of rs j.number)) (eq-eqb n j.number (sym number))) i;
+        }
+    by_test false t = other_row n rs j (λ e. true≢false (sym (eq-eqb j.number n e) ∙ t))
+
+staged_rows : (n : ℕ) (g : Stage) (rs : List Ready) (ks : List Change) →
+    ((j : Change) → In j ks → j.number ≡ n → j.stage ≡ g) →
+    change_known n (at_stage g) (map (change_row rs) ks) ≡ map (change_row (ready_without n rs)) ks
+staged_rows n g rs [] its = refl
+staged_rows n g rs (j ∷ js) its =
+    λ i. staged_row n g rs j (its j (inl refl)) i ∷ staged_rows n g rs js (λ y m e. its y (inr m) e) i
+
+-- of two changes of one number there is one
+only_one : (ks : List Change) (j k : Change) → Rising (λ (i : Change). i.number) ks → In j ks → In k ks →
+    j.number ≡ k.number → j ≡ k
+only_one [] j k up mj mk e = absurd mj
+only_one (y ∷ ys) j k up mj mk e = ⊎_elim
+    (λ (p : y ≡ j). ⊎_elim
+    (λ (q : y ≡ k). sym p ∙ q)
+    (λ (q : In k ys). let higher = up.0 k q in let at = ap (λ (i : Change). i.number) p in
+    absurd (omega (arith, higher, at, e)))
+    mk)
+    (λ (p : In j ys). ⊎_elim
+    (λ (q : y ≡ k). let higher = up.0 j p in let at = ap (λ (i : Change). i.number) q in
+    absurd (omega (arith, higher, at, e)))
+    (λ (q : In k ys). only_one ys j k up.1 p q e)
+    mk)
+    mj
+
+stage_enters : (n : ℕ) (rs : List Ready) (k : Change) (ks : List Change) → Rising (λ (j : Change). j.number) ks →
+    find (λ (j : Change). j.number == n) ks ≡ Some k →
+    change_known k.number (at_stage k.stage) (map (change_row rs) ks) ≡ map (change_row (ready_without n rs)) ks
+stage_enters n rs k ks up e =
+    let there = found (λ (i : Change). i.number == n) ks k e in
+    let number : k.number ≡ n = eqb-true k.number n there.1 in
+    ap (λ m. change_known m (at_stage k.stage) (map (change_row rs) ks)) number
+    ∙ staged_rows n k.stage rs ks
+    (λ j m f. ap (λ (i : Change). i.stage) (only_one ks j k up m there.0 (f ∙ sym number)))
 
 -- ---- queues
 
@@ -199,26 +251,17 @@ fold_append t [] b = refl
 fold_append t (e ∷ es) b = fold_append (edited_tables t e) es b
 
 pub entering_leads : (c : Settings) (x : Content) (edits : List Edit) (v : State) (r : Ready) (k : Change)
-    (name : List ℕ)
+    (name : List ℕ) (is_put : Bool)
     (q : Queue) (row : ItemRow) (plan : Plan) → are_sound c ≡ true → IsLed c x edits v →
     find (may_enter c v) v.ready ≡ Some r →
     known_change v r.change ≡ Some k → name ≡ (project_of c v r.change).queue → queue_named v name ≡ Some q →
     row ≡ entering_row v (item_rows c v q) r.change → plan ≡ next_plan c v r.change →
-    IsLed c x (edits ++ entering_edits name k row plan) (entered c v r)
-entering_leads c x edits v r k name q row plan sound led first known name_is named row_is plan_is = record {
+    IsLed c x (edits ++ entering_edits name is_put k row plan) (entered c v r)
+entering_leads c x edits v r k name is_put q row plan sound led first known name_is named row_is plan_is = record {
   sound = subst (IsSound c) (ap (λ (o : Option Ready). option_map_or (entered c v) o v) first)
       (one_sound c v sound led.sound);
-  leads = fold_append (tables c x) edits (entering_edits name k row plan)
-      ∙ ap (λ (t : Tables). fold_all t (entering_edits name k row plan)) led.leads
-      ∙ (λ i. record {
-        changes = changes_enter r.change v.ready k v.changes
-            (rising (λ (j : Change). j.number) v.changes led.sound.changes_rise) known i;
-        queues = queues i;
-        plans = put_by (λ (p : Plan). p.serial) (plan_is i) v.plans;
-        builds = v.builds;
-        counters = record v.counters { order = serial i };
-        kept = x.kept;
-      });
+  leads = fold_append (tables c x) edits (entering_edits name is_put k row plan)
+      ∙ ap (λ (t : Tables). fold_all t (entering_edits name is_put k row plan)) led.leads ∙ by_put is_put;
 }
   where
     serial : row.serial ≡ v.counters.order + 1
@@ -229,6 +272,9 @@ entering_leads c x edits v r k name q row plan sound led first known name_is nam
 
     rows : Queue → QueueRows
     rows p = queue_rows (item_rows c v p) p
+
+    rises : Rising (λ (j : Change). j.number) v.changes
+    rises = rising (λ (j : Change). j.number) v.changes led.sound.changes_rise
 
     next : Queue → Queue
     next p = cond (same_name p.name (project_of c v r.change).queue) (with_item (next_item v r.change) p) p
@@ -251,3 +297,23 @@ entering_leads c x edits v r k name q row plan sound led first known name_is nam
         (λ p m. queue_enters c v r name q p row sound led.sound there
         (found (λ (y : Queue). same_name y.name name) v.queues q named).1 row_is m name_is)
         ∙ sym (map_map after next v.queues)
+
+    -- either way the change is ready no longer
+    by_put : (b : Bool) →
+        fold_all (tables c (in_state x v)) (entering_edits name b k row plan) ≡ tables c (in_state x (entered c v r))
+    by_put true = λ i. record {
+      changes = changes_enter r.change v.ready k v.changes rises known i;
+      queues = queues i;
+      plans = put_by (λ (p : Plan). p.serial) (plan_is i) v.plans;
+      builds = v.builds;
+      counters = record v.counters { order = serial i };
+      kept = x.kept;
+    }
+    by_put false = λ i. record {
+      changes = stage_enters r.change v.ready k v.changes rises known i;
+      queues = queues i;
+      plans = put_by (λ (p : Plan). p.serial) (plan_is i) v.plans;
+      builds = v.builds;
+      counters = record v.counters { order = serial i };
+      kept = x.kept;
+    }

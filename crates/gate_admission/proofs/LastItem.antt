@@ -51,7 +51,9 @@ put_at name end r (edit.PutItem q i) puts l =
     (λ k. cond (puts.0 k && nat_lt (puts.1 k).serial end) (Some (puts.1 k).serial) None)
     ∙ ap (λ b. cond b (Some r.serial) None) (lt-ltb r.serial end l)
 put_at name end r (edit.DropItem k) puts l = absurd puts
+put_at name end r (edit.LandItem k) puts l = absurd puts
 put_at name end r (edit.PutChange k a) puts l = absurd puts
+put_at name end r (edit.SetStage k g) puts l = absurd puts
 put_at name end r (edit.PutPlan k) puts l = absurd puts
 put_at name end r (edit.PutLanding q p x) puts l = absurd puts
 put_at name end r (edit.PutReport q p x) puts l = absurd puts
@@ -283,7 +285,9 @@ under_edit name end (edit.PutItem q i) = by_name (same_name q name) (nat_lt i.se
     by_name true false e = tt
     by_name false l e = tt
 under_edit name end (edit.DropItem k) = tt
+under_edit name end (edit.LandItem k) = tt
 under_edit name end (edit.PutChange k a) = tt
+under_edit name end (edit.SetStage k g) = tt
 under_edit name end (edit.PutPlan k) = tt
 under_edit name end (edit.PutLanding q p x) = tt
 under_edit name end (edit.PutReport q p x) = tt

@@ -21,7 +21,7 @@ use Rattle.gate_book_trait.proofs.Finding.{find_map}
 use Rattle.gate_laws.proofs.Members.{found}
 use Rattle.gate_admission.specs.Led.{IsLed}
 use Rattle.gate_admission.specs.Known.{IsQueue}
-use Rattle.gate_admission.specs.Seen.{change_put, last_put, items_after}
+use Rattle.gate_admission.specs.Seen.{at_last, change_put, last_put, last_stage, items_after}
 use Rattle.gate_admission.proofs.Rows.{changes_fold, last_or}
 
 -- ---- counters and changes
@@ -55,13 +55,17 @@ told_of s n =
     by_found None = refl
     by_found (Some k) = refl
 
-pub known_led : (c : Settings) (x : Content) (edits : List Edit) (v : State) (n : ℕ) → IsLed c x edits v →
-    option_or (last_put n edits) (known_change x.state n) ≡ known_change v n
-known_led c x edits v n led =
-    sym (last_or n (known_change x.state n) edits)
-    ∙ ap (λ o. fold (change_put n) o edits) (sym (told_of x.state n))
+-- what is known after the edits, edit by edit
+pub put_led : (c : Settings) (x : Content) (edits : List Edit) (v : State) (n : ℕ) → IsLed c x edits v →
+    fold (change_put n) (known_change x.state n) edits ≡ known_change v n
+put_led c x edits v n led =
+    ap (λ o. fold (change_put n) o edits) (sym (told_of x.state n))
     ∙ sym (changes_fold n (map (change_row x.state.ready) x.state.changes) edits)
     ∙ ap (λ rows. change_in rows n) (changes_led c x edits v led) ∙ told_of v n
+
+pub known_led : (c : Settings) (x : Content) (edits : List Edit) (v : State) (n : ℕ) → IsLed c x edits v →
+    at_last (last_stage n edits) (option_or (last_put n edits) (known_change x.state n)) ≡ known_change v n
+known_led c x edits v n led = sym (last_or n (known_change x.state n) edits) ∙ put_led c x edits v n led
 
 -- ---- the items of a queue
 

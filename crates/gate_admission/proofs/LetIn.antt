@@ -1,14 +1,14 @@
 -- The candidates: changes that the edits put, and those that need a change that they put as landed.
 use Rattle.std.proofs.Common.{◌≡◌, ℕ, Bool, true, false, not, ◌&&◌, ◌||◌, cond, Option, Some, None, List, [], ◌∷◌}
 use Rattle.std.proofs.Common.{◌⊎◌, filter, fold, flat_map, refl, sym, ap, ◌∙◌, subst, inl, inr, ⊎_elim, true≢false}
-use Rattle.std.specs.Prelude.{nat_lt, ◌==◌, unwrap_or}
+use Rattle.std.specs.Prelude.{nat_lt, ◌==◌, option_map, unwrap_or}
 use Rattle.std.specs.List.{list_any}
-use Rattle.std.specs.Option.{option_or}
 use Rattle.std.proofs.lemmas.Bool.{or_parts, eqb-true, eq-eqb, not-true}
 use Rattle.gate_types.specs.declared.records.Change.{Change}
 use Rattle.gate_types.specs.declared.records.Ready.{Ready}
 use Rattle.gate_types.specs.declared.edits.Edit.{Edit}
 use Rattle.gate_types.specs.declared.edits.Edit.TheVariants as edit
+use Rattle.gate_types.specs.declared.records.Stage.{Stage}
 use Rattle.gate_types.specs.declared.records.Stage.TheVariants as stage
 use Rattle.gate_types.specs.Settings.{Settings}
 use Rattle.gate_types.specs.State.{State, known_change, change_of, is_landed}
@@ -19,10 +19,10 @@ use Rattle.gate_book_trait.specs.Reads.{ready_needing}
 use Rattle.gate_laws.proofs.Members.{from_filter, to_filter, from_append, to_left, to_right, from_flat, to_flat}
 use Rattle.gate_laws.proofs.Members.{any_from, any_to, none_from, contains_in, in_contains}
 use Rattle.gate_admission.specs.Led.{IsLed}
-use Rattle.gate_admission.specs.Seen.{ready_after, ready_without, with_approval, change_put}
-use Rattle.gate_admission.specs.Candidates.{needs_it, puts, makes_room, lets_in, EntersByEdits, put_ready}
+use Rattle.gate_admission.specs.Seen.{staged, ready_after, ready_without, with_approval, change_put}
+use Rattle.gate_admission.specs.Candidates.{is_landing, needs_it, puts, makes_room, lets_in, EntersByEdits, put_ready}
 use Rattle.gate_admission.specs.Candidates.{left_needing, let_in_by, let_in, AreToLookAt}
-use Rattle.gate_admission.proofs.Led.{known_led}
+use Rattle.gate_admission.proofs.Led.{put_led}
 use Rattle.gate_admission.proofs.ReadyList.{other_than, stays_in, ready_led}
 
 -- ---- one edit
@@ -105,10 +105,21 @@ put_change k (Some a) r =
       known = λ o f. ap (λ b. cond b (Some k) o) f;
     }
 
+-- its stage set
+set_stage : (n : ℕ) (g : Stage) (r : Ready) → AfterEdit (edit.SetStage n g) r
+set_stage n g r = record {
+  from = λ rs f m. (other_than n rs r m).0;
+  to = λ rs f m. stays_in n rs r m (λ e. true≢false (sym (eq-eqb n r.change (sym e)) ∙ f));
+  same = λ rs ts t m. absurd ((other_than n rs r m).1 (sym (eqb-true n r.change t)));
+  known = λ o f. ap (λ b. cond b (option_map (staged g) o) o) f;
+}
+
 after_edit : (e : Edit) (r : Ready) → AfterEdit e r
 after_edit (edit.PutChange k a) r = put_change k a r
+after_edit (edit.SetStage n g) r = set_stage n g r
 after_edit (edit.PutItem q i) r = unmoved (edit.PutItem q i) r (λ rs. refl) refl (λ o. refl)
 after_edit (edit.DropItem n) r = unmoved (edit.DropItem n) r (λ rs. refl) refl (λ o. refl)
+after_edit (edit.LandItem n) r = unmoved (edit.LandItem n) r (λ rs. refl) refl (λ o. refl)
 after_edit (edit.PutPlan p) r = unmoved (edit.PutPlan p) r (λ rs. refl) refl (λ o. refl)
 after_edit (edit.PutLanding q n l) r = unmoved (edit.PutLanding q n l) r (λ rs. refl) refl (λ o. refl)
 after_edit (edit.PutReport q n p) r = unmoved (edit.PutReport q n p) r (λ rs. refl) refl (λ o. refl)
@@ -191,8 +202,7 @@ module _ (c : Settings) (x : Content) (edits : List Edit) (v : State) (sound : I
   change_stays r f =
       ap (λ (o : Option Change). unwrap_or o
       (record { number = r.change; project = []; revision = 0; stage = stage.Closed; needs = [] }))
-      (sym (known_led c x edits v r.change led)
-      ∙ ap (λ o. option_or o (known_change x.state r.change)) (known_all edits r None f))
+      (sym (put_led c x edits v r.change led) ∙ known_all edits r (known_change x.state r.change) f)
 
   pub put_are_ready : (r : Ready) → In r (put_ready edits) → In r v.ready
   put_are_ready r m = subst (In r) now_ready (same_all edits [] x.state.ready r (put_is_put edits r m) m)
@@ -229,8 +239,14 @@ module _ (c : Settings) (x : Content) (edits : List Edit) (v : State) (sound : I
           by_test : (b : Bool) → In r (cond b (left_needing x.state edits k.number) []) → In r v.ready
           by_test true q = left_are_ready k.number r q
           by_test false q = absurd q
+      by_edit (edit.SetStage n g) p = by_test (is_landing g) p
+        where
+          by_test : (b : Bool) → In r (cond b (left_needing x.state edits n) []) → In r v.ready
+          by_test true q = left_are_ready n r q
+          by_test false q = absurd q
       by_edit (edit.PutItem q i) p = absurd p
       by_edit (edit.DropItem n) p = absurd p
+      by_edit (edit.LandItem n) p = absurd p
       by_edit (edit.PutPlan n) p = absurd p
       by_edit (edit.PutLanding q n l) p = absurd p
       by_edit (edit.PutReport q n l) p = absurd p
@@ -262,8 +278,27 @@ module _ (c : Settings) (x : Content) (edits : List Edit) (v : State) (sound : I
       by_put true t g = to_left (put_ready edits) (flat_map (let_in_by x.state edits) edits) r
           (put_stands r (any_to (puts r.change) edits (edit.PutChange k a) at t) m)
       by_put false t g = landed (is_landed k) refl g
+  let_in_is_there r (edit.SetStage n g) at m h = by_put (n == r.change) refl h
+    where
+      landed : (b : Bool) → is_landing g ≡ b → b && needs_it v n r ≡ true → In r (let_in x.state edits)
+      landed false f q = absurd (true≢false (sym q))
+      landed true f q = ⊎_elim
+          (λ (p : In r (put_ready edits)).
+          to_left (put_ready edits) (flat_map (let_in_by x.state edits) edits) r p)
+          (λ (p : In r (left_needing x.state edits n)).
+          to_right (put_ready edits) (flat_map (let_in_by x.state edits) edits) r
+          (to_flat (let_in_by x.state edits) edits (edit.SetStage n g) r at
+          (subst (λ b. In r (cond b (left_needing x.state edits n) [])) (sym f) p)))
+          (needing_is_there n r m q)
+
+      by_put : (b : Bool) → n == r.change ≡ b → (b || is_landing g && needs_it v n r) ≡ true →
+          In r (let_in x.state edits)
+      by_put true t q = to_left (put_ready edits) (flat_map (let_in_by x.state edits) edits) r
+          (put_stands r (any_to (puts r.change) edits (edit.SetStage n g) at t) m)
+      by_put false t q = landed (is_landing g) refl q
   let_in_is_there r (edit.PutItem q i) at m h = absurd (true≢false (sym h))
   let_in_is_there r (edit.DropItem n) at m h = absurd (true≢false (sym h))
+  let_in_is_there r (edit.LandItem n) at m h = absurd (true≢false (sym h))
   let_in_is_there r (edit.PutPlan n) at m h = absurd (true≢false (sym h))
   let_in_is_there r (edit.PutLanding q n l) at m h = absurd (true≢false (sym h))
   let_in_is_there r (edit.PutReport q n l) at m h = absurd (true≢false (sym h))

@@ -30,7 +30,9 @@ rising_after name rows (e ∷ es) r = rising_after name (edited_items name rows 
         by_name true = rising_put serial_of_item i rows r
         by_name false = r
     step (edit.DropItem k) = rising_filter serial_of_item (λ j. not (j.serial == k)) rows r
+    step (edit.LandItem k) = rising_filter serial_of_item (λ j. not (j.serial == k)) rows r
     step (edit.PutChange k a) = r
+    step (edit.SetStage n g) = r
     step (edit.PutPlan k) = r
     step (edit.PutLanding q p l) = r
     step (edit.PutReport q p l) = r
@@ -93,7 +95,9 @@ from_step name rows (edit.PutItem q i) r m = by_name (same_name q name) refl m
         ⊎_elim (λ (f : i ≡ r). inr (e, f)) (λ (f : In r rows). inl f) (from_put serial_of_item i rows r n)
     by_name false e n = inl n
 from_step name rows (edit.DropItem k) r m = inl (from_filter (λ j. not (j.serial == k)) rows r m).0
+from_step name rows (edit.LandItem k) r m = inl (from_filter (λ j. not (j.serial == k)) rows r m).0
 from_step name rows (edit.PutChange k a) r m = inl m
+from_step name rows (edit.SetStage n g) r m = inl m
 from_step name rows (edit.PutPlan k) r m = inl m
 from_step name rows (edit.PutLanding q p l) r m = inl m
 from_step name rows (edit.PutReport q p l) r m = inl m

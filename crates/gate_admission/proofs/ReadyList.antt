@@ -7,6 +7,7 @@ use Rattle.std.proofs.lemmas.Bool.{eqb-true, eq-eqb, ne_eqb, ltb-true, ltb-false
 use Rattle.std.proofs.lemmas.Option.{none-some}
 use Rattle.gate_types.specs.declared.records.Change.{Change}
 use Rattle.gate_types.specs.declared.records.Ready.{Ready}
+use Rattle.gate_types.specs.declared.records.Stage.{Stage}
 use Rattle.gate_types.specs.declared.records.Stage.TheVariants as stage
 use Rattle.gate_types.specs.declared.rows.ChangeRow.{ChangeRow}
 use Rattle.gate_types.specs.declared.edits.Edit.{Edit}
@@ -15,8 +16,9 @@ use Rattle.gate_types.specs.Settings.{Settings}
 use Rattle.gate_types.specs.State.{State, put_by, known_change, change_of, is_open}
 use Rattle.gate_types.specs.Once.{Content}
 use Rattle.gate_types.specs.Lawful.{IsSound, waiting_changes}
-use Rattle.gate_types.specs.Tables.{approval_of, change_row, edited_changes}
+use Rattle.gate_types.specs.Tables.{approval_of, at_stage, change_row, edited_changes}
 use Rattle.gate_types.specs.Rising.{In}
+use Rattle.gate_types.proofs.ChangedLemmas.{found_changed, found_key}
 use Rattle.gate_types.proofs.PlainLemmas.{some_is}
 use Rattle.gate_laws.proofs.Members.{every, found, not_found, from_filter, to_filter, from_append, to_left}
 use Rattle.gate_laws.proofs.Members.{to_right}
@@ -25,7 +27,7 @@ use Rattle.gate_laws.proofs.Counts.{distinct_from, times-append, one_of}
 use Rattle.gate_laws.proofs.RecordedChange.{known_number}
 use Rattle.gate_admission.specs.Led.{IsLed}
 use Rattle.gate_admission.specs.Seen.{ready_after, ready_without, with_approval}
-use Rattle.gate_admission.proofs.Rows.{find_put}
+use Rattle.gate_admission.proofs.Rows.{find_put, turned}
 use Rattle.gate_admission.proofs.Led.{changes_led}
 use Rattle.gate_book_trait.specs.RowReads.{approval_in}
 use Rattle.gate_book_trait.proofs.Finding.{find_map}
@@ -227,14 +229,54 @@ ready_step rows rs k (Some a) h =
         placed r (before r) refl
         (stays_in k.number rs r (h.there r e) (λ g. true≢false (sym (eq-eqb k.number r.change (sym g)) ∙ f)))
 
+-- the approval of a change whose stage is set
+approval_set : (n m : ℕ) (g : Stage) (rows : List ChangeRow) →
+    approval_in (edited_changes rows (edit.SetStage m g)) n ≡ cond (m == n) None (approval_in rows n)
+approval_set n m g rows =
+    ap (option_and_then (λ (r : ChangeRow). r.approval))
+    (found_changed (λ (r : ChangeRow). r.change.number) m (at_stage g) (λ r. refl) n rows)
+    ∙ by_row (find (λ (r : ChangeRow). r.change.number == n) rows)
+    (λ r e. found_key (λ (k : ChangeRow). k.change.number) n rows r e)
+  where
+    by_row : (o : Option ChangeRow) → ((r : ChangeRow) → o ≡ Some r → r.change.number ≡ n) →
+        option_and_then (λ (r : ChangeRow). r.approval)
+        (option_map (λ (r : ChangeRow). cond (r.change.number == m) (at_stage g r) r) o)
+        ≡ cond (m == n) None (option_and_then (λ (r : ChangeRow). r.approval) o)
+    by_row None its = elim (m == n) as (λ b. ◌≡◌ {A = Option ℕ} None (cond b None None)) [ true ↦ refl | false ↦ refl ]
+    by_row (Some r) its =
+        ap (λ k. (cond (k == m) (at_stage g r) r).approval) (its r refl)
+        ∙ ap (λ b. (cond b (at_stage g r) r).approval) (turned n m)
+        ∙ elim (m == n) as (λ b. (cond b (at_stage g r) r).approval ≡ cond b None r.approval)
+        [ true ↦ refl | false ↦ refl ]
+
+ready_set : (rows : List ChangeRow) (rs : List Ready) (n : ℕ) (g : Stage) → AreReady rows rs →
+    AreReady (edited_changes rows (edit.SetStage n g)) (ready_without n rs)
+ready_set rows rs n g h = record {
+  climbing = climbing_filter (λ (t : Ready). not (t.change == n)) rs h.climbing;
+  apart = apart_filter (λ (t : Ready). not (t.change == n)) rs h.apart;
+  told = λ r m.
+      let at = other_than n rs r m in
+      approval_set r.change n g rows
+      ∙ ap (λ b. cond b None (approval_in rows r.change)) (ne_eqb n r.change (λ e. at.1 (sym e))) ∙ h.told r at.0;
+  there = λ r e. by_test r (n == r.change) refl (sym (approval_set r.change n g rows) ∙ e);
+}
+  where
+    by_test : (r : Ready) (b : Bool) → n == r.change ≡ b → cond b None (approval_in rows r.change) ≡ Some r.approval →
+        In r (ready_without n rs)
+    by_test r true f e = absurd (none-some r.approval e)
+    by_test r false f e = stays_in n rs r (h.there r e) (λ q. true≢false (sym (eq-eqb n r.change (sym q)) ∙ f))
+
 ready_all : (rows : List ChangeRow) (rs : List Ready) (edits : List Edit) → AreReady rows rs →
     AreReady (fold edited_changes rows edits) (fold ready_after rs edits)
 ready_all rows rs [] h = h
 ready_all rows rs (edit.PutChange k a ∷ es) h =
     ready_all (edited_changes rows (edit.PutChange k a)) (ready_after rs (edit.PutChange k a)) es
     (ready_step rows rs k a h)
+ready_all rows rs (edit.SetStage n g ∷ es) h =
+    ready_all (edited_changes rows (edit.SetStage n g)) (ready_without n rs) es (ready_set rows rs n g h)
 ready_all rows rs (edit.PutItem q i ∷ es) h = ready_all rows rs es h
 ready_all rows rs (edit.DropItem k ∷ es) h = ready_all rows rs es h
+ready_all rows rs (edit.LandItem k ∷ es) h = ready_all rows rs es h
 ready_all rows rs (edit.PutPlan k ∷ es) h = ready_all rows rs es h
 ready_all rows rs (edit.PutLanding q p l ∷ es) h = ready_all rows rs es h
 ready_all rows rs (edit.PutReport q p l ∷ es) h = ready_all rows rs es h

@@ -236,7 +236,9 @@ not_past d (e ∷ es) h r =
         record { approval = r.approval; build = r.build; order = ltb-false last_number n f }
     one (edit.PutItem q i) f = r
     one (edit.DropItem k) f = r
+    one (edit.LandItem k) f = r
     one (edit.PutChange k a) f = r
+    one (edit.SetStage k g) f = r
     one (edit.PutPlan k) f = r
     one (edit.PutLanding q p l) f = r
     one (edit.PutReport q p l) f = r

@@ -6,6 +6,8 @@ use Rattle.std.specs.Option.{option_map_or}
 use Rattle.std.specs.Ordering.{nat_cmp}
 use Rattle.std.specs.BTreeMap.{BTreeMap, get}
 use Rattle.gate_types.specs.declared.records.Ready.{Ready}
+use Rattle.gate_types.specs.declared.records.Stage.{Stage}
+use Rattle.gate_types.specs.declared.records.Stage.TheVariants as stage
 use Rattle.gate_types.specs.declared.edits.Edit.{Edit}
 use Rattle.gate_types.specs.declared.edits.Edit.TheVariants as edit
 use Rattle.gate_types.specs.Settings.{Settings}
@@ -21,9 +23,10 @@ use Rattle.gate_types.specs.Limits.{most_items}
 abbrev pub needs_it : State → ℕ → Ready → Bool
 needs_it v n r = list_any (λ m. m == n) (change_of v r.change).needs
 
--- an edit puts the change of a number
+-- an edit puts the change of a number, or sets its stage
 abbrev pub puts : ℕ → Edit → Bool
 puts n (edit.PutChange k approval) = k.number == n
+puts n (edit.SetStage m g) = m == n
 puts n _ = false
 
 -- the queue of a name has its 1,000 items
@@ -39,9 +42,15 @@ reported _ = None
 abbrev pub makes_room : State → Edit → Bool
 makes_room s e = option_map_or (is_full s) (reported e) false
 
--- an edit puts a ready change, or puts one that it needs as landed
+-- whether it is the stage of what landed
+abbrev pub is_landing : Stage → Bool
+is_landing stage.Landed = true
+is_landing _ = false
+
+-- an edit puts a ready change or sets its stage, or puts or sets one that it needs as landed
 abbrev pub lets_in : State → Ready → Edit → Bool
 lets_in v r (edit.PutChange k approval) = k.number == r.change || is_landed k && needs_it v k.number r
+lets_in v r (edit.SetStage n g) = n == r.change || is_landing g && needs_it v n r
 lets_in v r _ = false
 
 -- whoever may enter v may by edits of s, where nobody might
@@ -56,7 +65,7 @@ EntersByEdits c s edits v =
 abbrev pub put_ready : List Edit → List Ready
 put_ready edits = fold ready_after [] edits
 
--- the ready changes that need one, but for those that the edits put
+-- the ready changes that need one, but for those that the edits put or set
 abbrev pub left_needing : State → List Edit → ℕ → List Ready
 left_needing s edits n = filter (λ r. not (list_any (puts r.change) edits)) (ready_needing s n)
 
@@ -64,9 +73,10 @@ left_needing s edits n = filter (λ r. not (list_any (puts r.change) edits)) (re
 abbrev pub if_left : Bool → Ready → List Ready
 if_left is_put r = if is_put then [] else r ∷ []
 
--- those that need a change that an edit puts as landed
+-- those that need a change that an edit puts or sets as landed
 abbrev pub let_in_by : State → List Edit → Edit → List Ready
 let_in_by s edits (edit.PutChange k approval) = if is_landed k then left_needing s edits k.number else []
+let_in_by s edits (edit.SetStage n g) = if is_landing g then left_needing s edits n else []
 let_in_by s edits _ = []
 
 -- those that the edits put, or that need a change that they put as landed

@@ -66,7 +66,11 @@ entering_row s rows n = record {
   failing = not (list_all (is_met_by_rows rows) (needs_of s n));
 }
 
+-- a change is ready no longer: where the edits before put its row, one more put replaces that
+abbrev pub unready : Bool → Change → Edit
+unready is_put k = if is_put then edit.PutChange k None else edit.SetStage k.number k.stage
+
 -- the edits of a change that enters a queue with this row and this plan
-abbrev pub entering_edits : List ℕ → Change → ItemRow → Plan → List Edit
-entering_edits name k row plan =
-    edit.PutItem name row ∷ edit.PutPlan plan ∷ edit.PutChange k None ∷ edit.SetCounter counter.Order row.serial ∷ []
+abbrev pub entering_edits : List ℕ → Bool → Change → ItemRow → Plan → List Edit
+entering_edits name is_put k row plan =
+    edit.PutItem name row ∷ edit.PutPlan plan ∷ unready is_put k ∷ edit.SetCounter counter.Order row.serial ∷ []

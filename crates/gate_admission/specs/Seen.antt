@@ -5,6 +5,7 @@ use Rattle.std.specs.Option.{option_or}
 use Rattle.gate_types.specs.declared.records.Change.{Change}
 use Rattle.gate_types.specs.declared.records.Item.{Item as ItemRow}
 use Rattle.gate_types.specs.declared.records.Ready.{Ready}
+use Rattle.gate_types.specs.declared.records.Stage.{Stage}
 use Rattle.gate_types.specs.declared.edits.Edit.{Edit}
 use Rattle.gate_types.specs.declared.edits.Edit.TheVariants as edit
 use Rattle.gate_types.specs.Names.{same_name}
@@ -13,14 +14,39 @@ use Rattle.gate_types.specs.Rows.{edited_items}
 use Rattle.gate_admission.specs.declared.items.Fate.{Fate}
 use Rattle.gate_admission.specs.declared.items.Fate.TheVariants as fate
 
--- what the last edit of a change's row puts
+-- a change at another stage
+abbrev pub staged : Stage → Change → Change
+staged g k = record k { stage = g }
+
+-- what is known of a change after an edit
 abbrev pub change_put : ℕ → Option Change → Edit → Option Change
 change_put n before (edit.PutChange k approval) = if k.number == n then Some k else before
+change_put n before (edit.SetStage m g) = if m == n then option_map (staged g) before else before
 change_put n before _ = before
+
+-- what the last put of a change's row puts
+abbrev pub row_put : ℕ → Option Change → Edit → Option Change
+row_put n before (edit.PutChange k approval) = if k.number == n then Some k else before
+row_put n before _ = before
 
 -- the same of a list of edits
 abbrev pub last_put : ℕ → List Edit → Option Change
-last_put n edits = fold (change_put n) None edits
+last_put n edits = fold (row_put n) None edits
+
+-- the stage that a change was set to behind its last put
+abbrev pub stage_put : ℕ → Option Stage → Edit → Option Stage
+stage_put n before (edit.PutChange k approval) = if k.number == n then None else before
+stage_put n before (edit.SetStage m g) = if m == n then Some g else before
+stage_put n before _ = before
+
+-- the same of a list of edits
+abbrev pub last_stage : ℕ → List Edit → Option Stage
+last_stage n edits = fold (stage_put n) None edits
+
+-- what is known of a change, at a stage if it was set to one
+abbrev pub at_last : Option Stage → Option Change → Option Change
+at_last None k = k
+at_last (Some g) k = option_map (staged g) k
 
 -- a change in the ready list under this approval, if it has one
 abbrev pub with_approval : Option ℕ → ℕ → List Ready → List Ready
@@ -36,6 +62,7 @@ ready_without n ready = filter (λ r. not (r.change == n)) ready
 -- the ready list after an edit
 abbrev pub ready_after : List Ready → Edit → List Ready
 ready_after ready (edit.PutChange k approval) = with_approval approval k.number (ready_without k.number ready)
+ready_after ready (edit.SetStage n g) = ready_without n ready
 ready_after ready _ = ready
 
 -- what an edit makes of the item of a serial in a queue, whatever it was
@@ -43,6 +70,7 @@ abbrev pub fate_after : List ℕ → ℕ → Fate → Edit → Fate
 fate_after name serial before (edit.PutItem queue i) =
     if same_name queue name && i.serial == serial then fate.Put i else before
 fate_after name serial before (edit.DropItem k) = if k == serial then fate.Dropped else before
+fate_after name serial before (edit.LandItem k) = if k == serial then fate.Dropped else before
 fate_after name serial before _ = before
 
 -- the item by what became of it, and as it was stored
@@ -111,9 +139,10 @@ abbrev pub grows : List ℕ → List ItemRow → Edit → Bool
 grows name items (edit.PutItem queue i) = same_name queue name && not (is_some (item_at i.serial items))
 grows name items _ = false
 
--- an edit drops one of these items
+-- an edit drops one of these items, or lands it
 abbrev pub shrinks : List ItemRow → Edit → Bool
 shrinks items (edit.DropItem serial) = is_some (item_at serial items)
+shrinks items (edit.LandItem serial) = is_some (item_at serial items)
 shrinks items _ = false
 
 -- one, if it is so

@@ -1,5 +1,5 @@
 //! The edits that let ready changes enter their queues.
-ghost use Rattle.std.specs.Prelude.{◌≡◌, true, false, MatchOption, IfOk, IfErr};
+ghost use Rattle.std.specs.Prelude.{◌≡◌, true, false, MatchOption, IfOk};
 ghost use Rattle.std.specs.List.{list_any};
 ghost use Rattle.std.specs.BTreeMap.{IsEmpty};
 ghost use Rattle.gate_types.specs.State.{State};
@@ -8,7 +8,7 @@ ghost use Rattle.gate_types.specs.Step.{is_exhausted};
 ghost use Rattle.gate_types.specs.Lawful.{IsSound};
 ghost use Rattle.gate_types.specs.Tables.{Leads};
 ghost use Rattle.gate_book_trait.specs.Faults.{MayAnswer};
-ghost use Rattle.gate_book_trait.specs.Kept.{OfHeldUnder, IsKept};
+ghost use Rattle.gate_book_trait.specs.Reading.{IsReadUnder};
 ghost use Rattle.gate_reads.specs.Moves.{in_state};
 ghost use Rattle.gate_admission.specs.Candidates.{EntersByEdits};
 ghost use Rattle.gate_admission.specs.Counted as counting;
@@ -45,14 +45,12 @@ pub fn admitting<B: Book>(
     config: &Config,
     edits: Vec<Edit>,
 ) -> Result<Option<Vec<Edit>>, BookFault>
-    ensures admitted { OfHeldUnder B.IsTrusted B.Holds book.old book.new config.now (λ x. (v : State) →
-        IsSound config.now v → Leads config.now x edits.items (in_state x v) →
+    ensures { IsReadUnder B.IsTrusted B.Holds B.LeavesOneOf (MayAnswer B.MayFault) book.old book.new config.now (λ x.
+        (v : State) → IsSound config.now v → Leads config.now x edits.items (in_state x v) →
         EntersByEdits config.now x.state edits.items v →
         IfOk result (λ found. MatchOption found (is_exhausted (admit config.now v) ≡ true)
         (λ all. Leads config.now x all.items (in_state x (admit config.now v)) ×
-        (is_exhausted (admit config.now v) ≡ false)))) }
-    ensures kept { IsKept B.IsTrusted B.Holds B.LeavesOneOf book.old book.new }
-    ensures fault { IfErr result (MayAnswer B.MayFault) }
+        (is_exhausted (admit config.now v) ≡ false)))) result }
 {
     config.show_sound();
     let mut waiting = candidates(alloc, book, edits.as_slice())?;

@@ -1,11 +1,11 @@
 //! The candidates after a delivery: changes that might enter by what it did, so that the others aren't looked up.
-ghost use Rattle.std.specs.Prelude.{◌≡◌, ◌++◌, not, fold, filter, IfOk, IfErr, OnOk, ℕ};
+ghost use Rattle.std.specs.Prelude.{◌≡◌, ◌++◌, not, fold, filter, IfOk, OnOk, ℕ};
 ghost use Rattle.std.specs.List.{list_any};
 ghost use Rattle.std.specs.Ordering.{nat_cmp};
 ghost use Rattle.std.specs.BTreeMap.{get};
 ghost use Rattle.gate_types.specs.State.{State};
 ghost use Rattle.gate_book_trait.specs.Faults.{MayAnswer};
-ghost use Rattle.gate_book_trait.specs.Kept.{OfHeld, IsKept};
+ghost use Rattle.gate_book_trait.specs.Reading.{IsRead};
 ghost use Rattle.gate_admission.specs.Led.{IsLed};
 ghost use Rattle.gate_admission.specs.Candidates as candidate;
 ghost use Rattle.gate_admission.specs.Candidates.{AreCandidates, AreOthers, EntersByEdits, change_under};
@@ -16,7 +16,7 @@ use gate_book_trait::{Book, BookFault};
 use gate_types::edits::Edit;
 use gate_types::names::NoMemory;
 use gate_types::numbers::ChangeNo;
-use gate_types::records::Ready;
+use gate_types::records::{Ready, Stage};
 use std::alloc::Global;
 use std::collections::BTreeMap;
 
@@ -25,6 +25,7 @@ fn puts(edit: &Edit, number: ChangeNo) -> bool
 {
     match edit {
         Edit::PutChange { change, .. } => change.number == number,
+        Edit::SetStage { change, .. } => *change == number,
         _ => false,
     }
 }
@@ -57,38 +58,47 @@ fn without_put(alloc: Global, rows: &[Ready], edits: &[Edit]) -> Result<Vec<Read
     Ok(left)
 }
 
-/// The ready changes that need one, but for those that the edits put.
+/// The ready changes that need one, but for those that the edits put or set.
 fn left_needing<B: Book>(
     alloc: Global,
     book: &mut B,
     edits: &[Edit],
     change: ChangeNo,
 ) -> Result<Vec<Ready>, BookFault>
-    ensures found { OfHeld B.IsTrusted B.Holds book.old book.new (λ c x.
-        IfOk result (λ rows. rows.items ≡ candidate.left_needing x.state edits.now change)) }
-    ensures kept { IsKept B.IsTrusted B.Holds B.LeavesOneOf book.old book.new }
-    ensures fault { IfErr result (MayAnswer B.MayFault) }
+    ensures { IsRead B.IsTrusted B.Holds B.LeavesOneOf (MayAnswer B.MayFault) book.old book.new (λ c x.
+        IfOk result (λ rows. rows.items ≡ candidate.left_needing x.state edits.now change)) result }
 {
     let rows = book.ready_needing(change)?;
     Ok(without_put(alloc, rows.as_slice(), edits)?)
 }
 
-/// Those that need a change that an edit puts as landed.
+fn is_landing(stage: Stage) -> bool
+    ensures { result ≡ candidate.is_landing stage }
+{
+    matches!(stage, Stage::Landed)
+}
+
+/// Those that need a change that an edit puts or sets as landed.
 fn let_in_by<B: Book>(
     alloc: Global,
     book: &mut B,
     edits: &[Edit],
     edit: &Edit,
 ) -> Result<Vec<Ready>, BookFault>
-    ensures found { OfHeld B.IsTrusted B.Holds book.old book.new (λ c x.
-        IfOk result (λ rows. rows.items ≡ candidate.let_in_by x.state edits.now edit.now)) }
-    ensures kept { IsKept B.IsTrusted B.Holds B.LeavesOneOf book.old book.new }
-    ensures fault { IfErr result (MayAnswer B.MayFault) }
+    ensures { IsRead B.IsTrusted B.Holds B.LeavesOneOf (MayAnswer B.MayFault) book.old book.new (λ c x.
+        IfOk result (λ rows. rows.items ≡ candidate.let_in_by x.state edits.now edit.now)) result }
 {
     match edit {
         Edit::PutChange { change, .. } => {
             if change.is_landed() {
                 left_needing(alloc, book, edits, change.number)
+            } else {
+                Ok(Vec::new(alloc))
+            }
+        }
+        Edit::SetStage { change, stage } => {
+            if is_landing(*stage) {
+                left_needing(alloc, book, edits, *change)
             } else {
                 Ok(Vec::new(alloc))
             }
@@ -107,12 +117,10 @@ fn with_rows(front: Vec<Ready>, back: &[Ready]) -> Result<Vec<Ready>, NoMemory>
     Ok(all)
 }
 
-/// The ready changes that the edits put, and those that need a change that they put as landed.
+/// The ready changes that the edits put, and those that need a change that they put or set as landed.
 fn let_in<B: Book>(alloc: Global, book: &mut B, edits: &[Edit]) -> Result<Vec<Ready>, BookFault>
-    ensures found { OfHeld B.IsTrusted B.Holds book.old book.new (λ c x.
-        IfOk result (λ rows. rows.items ≡ candidate.let_in x.state edits.now)) }
-    ensures kept { IsKept B.IsTrusted B.Holds B.LeavesOneOf book.old book.new }
-    ensures fault { IfErr result (MayAnswer B.MayFault) }
+    ensures { IsRead B.IsTrusted B.Holds B.LeavesOneOf (MayAnswer B.MayFault) book.old book.new (λ c x.
+        IfOk result (λ rows. rows.items ≡ candidate.let_in x.state edits.now)) result }
 {
     let mut all = ready_put(alloc, edits)?;
     for edit in edits {
@@ -141,10 +149,9 @@ fn add_all(waiting: &mut BTreeMap<u64, ChangeNo>, rows: &[Ready]) -> Result<(), 
 
 /// All who are ready, where a full queue lost an item; else those whom the edits let in.
 fn to_look_at<B: Book>(alloc: Global, book: &mut B, edits: &[Edit]) -> Result<Vec<Ready>, BookFault>
-    ensures found { OfHeld B.IsTrusted B.Holds book.old book.new (λ c x. (v : State) → IsLed c x edits.now v →
-        EntersByEdits c x.state edits.now v → IfOk result (λ rows. candidate.AreToLookAt c v rows.items)) }
-    ensures kept { IsKept B.IsTrusted B.Holds B.LeavesOneOf book.old book.new }
-    ensures fault { IfErr result (MayAnswer B.MayFault) }
+    ensures { IsRead B.IsTrusted B.Holds B.LeavesOneOf (MayAnswer B.MayFault) book.old book.new (λ c x.
+        (v : State) → IsLed c x edits.now v →
+        EntersByEdits c x.state edits.now v → IfOk result (λ rows. candidate.AreToLookAt c v rows.items)) result }
 {
     if make_room(book, edits)? {
         ready_list(alloc, book, edits)
@@ -159,10 +166,9 @@ pub(crate) fn candidates<B: Book>(
     book: &mut B,
     edits: &[Edit],
 ) -> Result<BTreeMap<u64, ChangeNo>, BookFault>
-    ensures found { OfHeld B.IsTrusted B.Holds book.old book.new (λ c x. (v : State) → IsLed c x edits.now v →
-        EntersByEdits c x.state edits.now v → IfOk result (AreCandidates c v)) }
-    ensures kept { IsKept B.IsTrusted B.Holds B.LeavesOneOf book.old book.new }
-    ensures fault { IfErr result (MayAnswer B.MayFault) }
+    ensures { IsRead B.IsTrusted B.Holds B.LeavesOneOf (MayAnswer B.MayFault) book.old book.new (λ c x.
+        (v : State) → IsLed c x edits.now v →
+        EntersByEdits c x.state edits.now v → IfOk result (AreCandidates c v)) result }
 {
     let rows = to_look_at(alloc, book, edits)?;
     let mut waiting = BTreeMap::new(alloc);
@@ -178,10 +184,9 @@ pub(crate) fn add_needing<B: Book>(
     change: ChangeNo,
     waiting: &mut BTreeMap<u64, ChangeNo>,
 ) -> Result<(), BookFault>
-    ensures found { OfHeld B.IsTrusted B.Holds book.old book.new (λ c x. (v : State) → IsLed c x edits.now v →
-        AreOthers c v change waiting.old → OnOk result (AreCandidates c v waiting.new)) }
-    ensures kept { IsKept B.IsTrusted B.Holds B.LeavesOneOf book.old book.new }
-    ensures fault { IfErr result (MayAnswer B.MayFault) }
+    ensures { IsRead B.IsTrusted B.Holds B.LeavesOneOf (MayAnswer B.MayFault) book.old book.new (λ c x.
+        (v : State) → IsLed c x edits.now v →
+        AreOthers c v change waiting.old → OnOk result (AreCandidates c v waiting.new)) result }
 {
     let put = ready_put(alloc, edits)?;
     let left = left_needing(alloc, book, edits, change)?;

@@ -1,11 +1,12 @@
 //! The counters, as they are after edits.
-ghost use Rattle.std.specs.Prelude.{◌≡◌, ◌||◌, nat_lt, fold, IfOk, IfErr};
+ghost use Rattle.std.specs.Prelude.{◌≡◌, ◌||◌, nat_lt, fold, IfOk};
 ghost use Rattle.std.specs.List.{list_any};
 ghost use Rattle.gate_types.specs.Counters.{Drawn, last_number};
 ghost use Rattle.gate_types.specs.Tables.{edited_counters};
+ghost use Rattle.gate_types.specs.State.{State};
 ghost use Rattle.gate_book_trait.specs.Faults.{MayAnswer};
-ghost use Rattle.gate_book_trait.specs.Kept.{IsKept};
-ghost use Rattle.gate_admission.specs.Led.{OfLed};
+ghost use Rattle.gate_book_trait.specs.Reading.{IsRead};
+ghost use Rattle.gate_admission.specs.Led.{IsLed};
 ghost use Rattle.gate_admission.specs.Counted as counting;
 
 use gate_book_trait::{Book, BookFault};
@@ -68,10 +69,8 @@ fn after_all(drawn: LastDrawn, edits: &[Edit]) -> LastDrawn
 
 /// The last number drawn of each kind, after the edits.
 pub(crate) fn last_drawn<B: Book>(book: &mut B, edits: &[Edit]) -> Result<LastDrawn, BookFault>
-    ensures found { OfLed B.IsTrusted B.Holds book.old book.new edits.now (λ c v.
-        IfOk result (λ drawn. drawn ≡ v.counters)) }
-    ensures kept { IsKept B.IsTrusted B.Holds B.LeavesOneOf book.old book.new }
-    ensures fault { IfErr result (MayAnswer B.MayFault) }
+    ensures { IsRead B.IsTrusted B.Holds B.LeavesOneOf (MayAnswer B.MayFault) book.old book.new (λ c x.
+        (v : State) → IsLed c x edits.now v → IfOk result (λ drawn. drawn ≡ v.counters)) result }
 {
     let counters = book.counters()?;
     let drawn = LastDrawn {

@@ -1,21 +1,22 @@
 //! A ready change enters its queue: whether it may, and the edits that stand for it.
-ghost use Rattle.std.specs.Prelude.{◌≡◌, ◌&&◌, ◌+◌, ◌++◌, not, find, Some, option_map, option_and_then, IfOk, IfErr};
+ghost use Rattle.std.specs.Prelude.{◌≡◌, ◌&&◌, ◌+◌, ◌++◌, not, find, Some, is_some, option_map, option_and_then, IfOk};
 ghost use Rattle.std.specs.Prelude.{OnOk};
 ghost use Rattle.std.specs.List.{list_all};
 ghost use Rattle.gate_types.specs.State.{State, known_change};
 ghost use Rattle.gate_types.specs.Standing.{needs_of};
 ghost use Rattle.gate_types.specs.Admit.{may_enter, entered};
 ghost use Rattle.gate_book_trait.specs.Faults.{MayAnswer};
-ghost use Rattle.gate_book_trait.specs.Kept.{OfHeldUnder, IsKept};
+ghost use Rattle.gate_book_trait.specs.Reading.{IsRead, IsReadUnder};
 ghost use Rattle.gate_book_trait.specs.Reads.{items_in};
-ghost use Rattle.gate_admission.specs.Led.{IsLed, OfLed, OfLedUnder};
+ghost use Rattle.gate_admission.specs.Led.{IsLed};
 ghost use Rattle.gate_admission.specs.Known.{IsQueue};
 ghost use Rattle.gate_admission.specs.Enters.{is_met_by_rows, met_by_rows, AreMetBy, AreMetWithRoom, ahead_after};
-ghost use Rattle.gate_admission.specs.Enters.{ahead_behind, entering_row, entering_edits};
+ghost use Rattle.gate_admission.specs.Enters.{ahead_behind, entering_row, entering_edits, unready};
+ghost use Rattle.gate_admission.specs.Seen.{last_put};
 ghost use Rattle.gate_admission.specs.Entrants.{IsEntrant, TellsEntrant};
 
 use crate::items::{item_in, last_item};
-use crate::known_changes::{known, needs_with};
+use crate::known_changes::{known, last_put, needs_with};
 use crate::room::has_room;
 use gate_book_trait::{Book, BookFault};
 use gate_types::config::{Config, Project};
@@ -51,10 +52,9 @@ fn met<B: Book>(
     queue: &Name,
     need: &Need,
 ) -> Result<Option<bool>, BookFault>
-    ensures found { OfLed B.IsTrusted B.Holds book.old book.new edits.now (λ c v.
-        IsQueue v queue.now → IfOk result (λ met. met ≡ met_by_rows (items_in c v queue.now) need.now)) }
-    ensures kept { IsKept B.IsTrusted B.Holds B.LeavesOneOf book.old book.new }
-    ensures fault { IfErr result (MayAnswer B.MayFault) }
+    ensures { IsRead B.IsTrusted B.Holds B.LeavesOneOf (MayAnswer B.MayFault) book.old book.new (λ c x.
+        (v : State) → IsLed c x edits.now v →
+        IsQueue v queue.now → IfOk result (λ met. met ≡ met_by_rows (items_in c v queue.now) need.now)) result }
 {
     if need.landed {
         return Ok(Some(true));
@@ -76,10 +76,9 @@ fn all_met<B: Book>(
     queue: &Name,
     needs: &[Need],
 ) -> Result<Option<bool>, BookFault>
-    ensures found { OfLed B.IsTrusted B.Holds book.old book.new edits.now (λ c v.
-        IsQueue v queue.now → IfOk result (AreMetBy (items_in c v queue.now) needs.now)) }
-    ensures kept { IsKept B.IsTrusted B.Holds B.LeavesOneOf book.old book.new }
-    ensures fault { IfErr result (MayAnswer B.MayFault) }
+    ensures { IsRead B.IsTrusted B.Holds B.LeavesOneOf (MayAnswer B.MayFault) book.old book.new (λ c x.
+        (v : State) → IsLed c x edits.now v →
+        IsQueue v queue.now → IfOk result (AreMetBy (items_in c v queue.now) needs.now)) result }
 {
     let mut all_fine = true;
     for need in needs {
@@ -98,10 +97,9 @@ fn all_met_with_room<B: Book>(
     queue: &Name,
     needs: &[Need],
 ) -> Result<Option<bool>, BookFault>
-    ensures found { OfLed B.IsTrusted B.Holds book.old book.new edits.now (λ c v.
-        IsQueue v queue.now → IfOk result (AreMetWithRoom c v queue.now needs.now)) }
-    ensures kept { IsKept B.IsTrusted B.Holds B.LeavesOneOf book.old book.new }
-    ensures fault { IfErr result (MayAnswer B.MayFault) }
+    ensures { IsRead B.IsTrusted B.Holds B.LeavesOneOf (MayAnswer B.MayFault) book.old book.new (λ c x.
+        (v : State) → IsLed c x edits.now v →
+        IsQueue v queue.now → IfOk result (AreMetWithRoom c v queue.now needs.now)) result }
 {
     let Some(fine) = all_met(book, edits, queue, needs)? else {
         return Ok(None);
@@ -120,10 +118,8 @@ pub(crate) fn if_may_enter<'c, B: Book>(
     edits: &[Edit],
     ready: Ready,
 ) -> Result<Option<Entrant<'c>>, BookFault>
-    ensures found { OfLedUnder B.IsTrusted B.Holds book.old book.new config.now edits.now (λ v.
-        IfOk result (TellsEntrant config.now v ready)) }
-    ensures kept { IsKept B.IsTrusted B.Holds B.LeavesOneOf book.old book.new }
-    ensures fault { IfErr result (MayAnswer B.MayFault) }
+    ensures { IsReadUnder B.IsTrusted B.Holds B.LeavesOneOf (MayAnswer B.MayFault) book.old book.new config.now (λ x.
+        (v : State) → IsLed config.now x edits.now v → IfOk result (TellsEntrant config.now v ready)) result }
 {
     config.show_sound();
     let Some(change) = known(book, edits, ready.change)? else {
@@ -166,11 +162,9 @@ fn ahead_behind<B: Book>(
     queue: &Name,
     next: Serial,
 ) -> Result<Option<Serial>, BookFault>
-    ensures found { OfLed B.IsTrusted B.Holds book.old book.new edits.now (λ c v.
-        IsQueue v queue.now → next ≡ v.counters.order + 1 →
-        IfOk result (λ ahead. ahead ≡ ahead_behind (items_in c v queue.now))) }
-    ensures kept { IsKept B.IsTrusted B.Holds B.LeavesOneOf book.old book.new }
-    ensures fault { IfErr result (MayAnswer B.MayFault) }
+    ensures { IsRead B.IsTrusted B.Holds B.LeavesOneOf (MayAnswer B.MayFault) book.old book.new (λ c x.
+        (v : State) → IsLed c x edits.now v → IsQueue v queue.now → next ≡ v.counters.order + 1 →
+        IfOk result (λ ahead. ahead ≡ ahead_behind (items_in c v queue.now))) result }
 {
     Ok(ahead_after(last_item(book, edits, queue, next)?))
 }
@@ -184,13 +178,11 @@ fn entering_row<B: Book>(
     failing: bool,
     serial: Serial,
 ) -> Result<Item, BookFault>
-    ensures found { OfLed B.IsTrusted B.Holds book.old book.new edits.now (λ c v.
-        known_change v change.now.number ≡ Some change.now →
+    ensures { IsRead B.IsTrusted B.Holds B.LeavesOneOf (MayAnswer B.MayFault) book.old book.new (λ c x.
+        (v : State) → IsLed c x edits.now v → known_change v change.now.number ≡ Some change.now →
         failing ≡ not (list_all (is_met_by_rows (items_in c v queue.now)) (needs_of v change.now.number)) →
         IsQueue v queue.now → serial ≡ v.counters.order + 1 →
-        IfOk result (λ row. row ≡ entering_row v (items_in c v queue.now) change.now.number)) }
-    ensures kept { IsKept B.IsTrusted B.Holds B.LeavesOneOf book.old book.new }
-    ensures fault { IfErr result (MayAnswer B.MayFault) }
+        IfOk result (λ row. row ≡ entering_row v (items_in c v queue.now) change.now.number)) result }
 {
     let ahead = ahead_behind(book, edits, queue, serial)?;
     Ok(Item {
@@ -202,6 +194,23 @@ fn entering_row<B: Book>(
     })
 }
 
+/// The edit by which a change is ready no longer. Where the edits put its row, it is put once more: of two puts only
+/// the later one is made, but a stage would be set beside a put.
+fn unready(edits: &[Edit], change: Change) -> Edit
+    ensures { result ≡ unready (is_some (last_put change.number edits.now)) change }
+{
+    match last_put(edits, change.number) {
+        Some(_) => Edit::PutChange {
+            change,
+            approval: None,
+        },
+        None => Edit::SetStage {
+            change: change.number,
+            stage: change.stage,
+        },
+    }
+}
+
 fn push_entering(
     edits: &mut Vec<Edit>,
     queue: Name,
@@ -209,15 +218,14 @@ fn push_entering(
     row: Item,
     plan: Plan,
 ) -> Result<(), NoMemory>
-    ensures { OnOk result (edits.new.items ≡ edits.old.items ++ entering_edits queue change row plan) }
+    ensures { OnOk result (edits.new.items ≡ edits.old.items
+        ++ entering_edits queue (is_some (last_put change.number edits.old.items)) change row plan) }
 {
     let Item { serial, .. } = row;
+    let unready = unready(edits.as_slice(), change);
     edits.push(Edit::PutItem { queue, item: row })?;
     edits.push(Edit::PutPlan(plan))?;
-    edits.push(Edit::PutChange {
-        change,
-        approval: None,
-    })?;
+    edits.push(unready)?;
     edits.push(Edit::SetCounter {
         counter: Counter::Order,
         drawn: serial.get(),
@@ -233,12 +241,11 @@ pub(crate) fn enter<B: Book>(
     entrant: Entrant<'_>,
     serial: Serial,
 ) -> Result<(), BookFault>
-    ensures led { OfHeldUnder B.IsTrusted B.Holds book.old book.new config.now (λ x. (v : State) →
+    ensures { IsReadUnder B.IsTrusted B.Holds B.LeavesOneOf (MayAnswer B.MayFault) book.old book.new config.now (λ x.
+        (v : State) →
         IsLed config.now x edits.old.items v → find (may_enter config.now v) v.ready ≡ Some entrant.entry.ready →
         IsEntrant config.now v entrant.entry → serial ≡ v.counters.order + 1 →
-        OnOk result (IsLed config.now x edits.new.items (entered config.now v entrant.entry.ready))) }
-    ensures kept { IsKept B.IsTrusted B.Holds B.LeavesOneOf book.old book.new }
-    ensures fault { IfErr result (MayAnswer B.MayFault) }
+        OnOk result (IsLed config.now x edits.new.items (entered config.now v entrant.entry.ready))) result }
 {
     config.show_sound();
     let Entrant {

@@ -1,9 +1,11 @@
 //! The items of a queue, as they are after edits.
 ghost use Rattle.std.specs.Prelude.{◌≡◌, ◌<◌, ◌+◌, fold, IfOk, IfErr, IfSome, option_map, option_and_then};
+ghost use Rattle.gate_types.specs.State.{State};
 ghost use Rattle.gate_book_trait.specs.Faults.{MayAnswer};
 ghost use Rattle.gate_book_trait.specs.Kept.{OfHeld, IsKept};
+ghost use Rattle.gate_book_trait.specs.Reading.{IsRead};
 ghost use Rattle.gate_book_trait.specs.Reads.{items_in, last_below, queued_of};
-ghost use Rattle.gate_admission.specs.Led.{OfLed};
+ghost use Rattle.gate_admission.specs.Led.{IsLed};
 ghost use Rattle.gate_admission.specs.Seen as seen;
 ghost use Rattle.gate_admission.specs.declared.items.Fate.TheVariants as fate;
 ghost use Rattle.gate_admission.specs.Known.{IsQueue};
@@ -30,10 +32,8 @@ fn stored_item<B: Book>(
     queue: &Name,
     serial: Serial,
 ) -> Result<Option<Item>, BookFault>
-    ensures found { OfHeld B.IsTrusted B.Holds book.old book.new (λ c x.
-        IfOk result (λ found. found ≡ seen.item_at serial (items_in c x.state queue.now))) }
-    ensures kept { IsKept B.IsTrusted B.Holds B.LeavesOneOf book.old book.new }
-    ensures fault { IfErr result (MayAnswer B.MayFault) }
+    ensures { IsRead B.IsTrusted B.Holds B.LeavesOneOf (MayAnswer B.MayFault) book.old book.new (λ c x.
+        IfOk result (λ found. found ≡ seen.item_at serial (items_in c x.state queue.now))) result }
 {
     Ok(at_serial(book.next_item(queue, serial.get() - 1)?, serial))
 }
@@ -55,6 +55,7 @@ fn after(queue: &Name, serial: Serial, before: Fate, edit: &Edit) -> Fate
             item: put,
         } if same_name(name, queue) && put.serial == serial => Fate::Put(*put),
         Edit::DropItem(dropped) if *dropped == serial => Fate::Dropped,
+        Edit::LandItem(landed) if *landed == serial => Fate::Dropped,
         _ => before,
     }
 }
@@ -86,10 +87,9 @@ pub(crate) fn item_at<B: Book>(
     queue: &Name,
     serial: Serial,
 ) -> Result<Option<Item>, BookFault>
-    ensures found { OfHeld B.IsTrusted B.Holds book.old book.new (λ c x. IfOk result (λ found.
-        found ≡ seen.item_at serial (seen.items_after queue.now (items_in c x.state queue.now) edits.now))) }
-    ensures kept { IsKept B.IsTrusted B.Holds B.LeavesOneOf book.old book.new }
-    ensures fault { IfErr result (MayAnswer B.MayFault) }
+    ensures { IsRead B.IsTrusted B.Holds B.LeavesOneOf (MayAnswer B.MayFault) book.old book.new (λ c x.
+        IfOk result (λ found.
+        found ≡ seen.item_at serial (seen.items_after queue.now (items_in c x.state queue.now) edits.now))) result }
 {
     match made_of(queue, serial, edits) {
         Fate::Stays => stored_item(book, queue, serial),
@@ -115,10 +115,9 @@ fn item_if<B: Book>(
     serial: Serial,
     change: ChangeNo,
 ) -> Result<Option<Item>, BookFault>
-    ensures found { OfHeld B.IsTrusted B.Holds book.old book.new (λ c x. IfOk result (λ found.
-        found ≡ seen.item_if change serial (seen.items_after queue.now (items_in c x.state queue.now) edits.now))) }
-    ensures kept { IsKept B.IsTrusted B.Holds B.LeavesOneOf book.old book.new }
-    ensures fault { IfErr result (MayAnswer B.MayFault) }
+    ensures { IsRead B.IsTrusted B.Holds B.LeavesOneOf (MayAnswer B.MayFault) book.old book.new (λ c x.
+        IfOk result (λ found. found ≡ seen.item_if change serial (seen.items_after queue.now
+        (items_in c x.state queue.now) edits.now))) result }
 {
     Ok(of_change(item_at(book, edits, queue, serial)?, change))
 }
@@ -140,10 +139,9 @@ fn item_put<B: Book>(
     queue: &Name,
     change: ChangeNo,
 ) -> Result<Option<Item>, BookFault>
-    ensures found { OfHeld B.IsTrusted B.Holds book.old book.new (λ c x. IfOk result (λ found. found ≡
-        seen.item_put change (seen.items_after queue.now (items_in c x.state queue.now) edits.now) edits.now)) }
-    ensures kept { IsKept B.IsTrusted B.Holds B.LeavesOneOf book.old book.new }
-    ensures fault { IfErr result (MayAnswer B.MayFault) }
+    ensures { IsRead B.IsTrusted B.Holds B.LeavesOneOf (MayAnswer B.MayFault) book.old book.new (λ c x.
+        IfOk result (λ found. found ≡
+        seen.item_put change (seen.items_after queue.now (items_in c x.state queue.now) edits.now) edits.now)) result }
 {
     for edit in edits {
         if let Some(serial) = serial_put(edit, change) {
@@ -162,11 +160,9 @@ fn item_left<B: Book>(
     queue: &Name,
     change: ChangeNo,
 ) -> Result<Option<Item>, BookFault>
-    ensures found { OfHeld B.IsTrusted B.Holds book.old book.new (λ c x. IfOk result (λ found. found ≡
-        seen.item_left change (queued_of c x.state change)
-        (seen.items_after queue.now (items_in c x.state queue.now) edits.now))) }
-    ensures kept { IsKept B.IsTrusted B.Holds B.LeavesOneOf book.old book.new }
-    ensures fault { IfErr result (MayAnswer B.MayFault) }
+    ensures { IsRead B.IsTrusted B.Holds B.LeavesOneOf (MayAnswer B.MayFault) book.old book.new (λ c x.
+        IfOk result (λ found. found ≡ seen.item_left change (queued_of c x.state change)
+        (seen.items_after queue.now (items_in c x.state queue.now) edits.now))) result }
 {
     match book.queued(change)? {
         Some(stored) => item_if(book, edits, queue, stored.item.serial, change),
@@ -181,10 +177,9 @@ pub fn item_in<B: Book>(
     queue: &Name,
     change: ChangeNo,
 ) -> Result<Option<Item>, BookFault>
-    ensures found { OfLed B.IsTrusted B.Holds book.old book.new edits.now (λ c v.
-        IsQueue v queue.now → IfOk result (λ found. found ≡ item_in change (items_in c v queue.now))) }
-    ensures kept { IsKept B.IsTrusted B.Holds B.LeavesOneOf book.old book.new }
-    ensures fault { IfErr result (MayAnswer B.MayFault) }
+    ensures { IsRead B.IsTrusted B.Holds B.LeavesOneOf (MayAnswer B.MayFault) book.old book.new (λ c x.
+        (v : State) → IsLed c x edits.now v →
+        IsQueue v queue.now → IfOk result (λ found. found ≡ item_in change (items_in c v queue.now))) result }
 {
     match item_put(book, edits, queue, change)? {
         Some(item) => Ok(Some(item)),
@@ -272,10 +267,9 @@ fn last_below<B: Book>(
     queue: &Name,
     below: u64,
 ) -> Result<Option<Item>, BookFault>
-    ensures found { OfHeld B.IsTrusted B.Holds book.old book.new (λ c x. IfOk result (λ found. found ≡
-        last_below below (seen.items_after queue.now (items_in c x.state queue.now) edits.now))) }
-    ensures kept { IsKept B.IsTrusted B.Holds B.LeavesOneOf book.old book.new }
-    ensures fault { IfErr result (MayAnswer B.MayFault) }
+    ensures { IsRead B.IsTrusted B.Holds B.LeavesOneOf (MayAnswer B.MayFault) book.old book.new (λ c x.
+        IfOk result (λ found. found ≡
+        last_below below (seen.items_after queue.now (items_in c x.state queue.now) edits.now))) result }
 {
     let mut end = below;
     while let Some(next) = next_below(book, edits, queue, end)? {
@@ -295,11 +289,9 @@ pub(crate) fn last_item<B: Book>(
     queue: &Name,
     next: Serial,
 ) -> Result<Option<Item>, BookFault>
-    ensures found { OfLed B.IsTrusted B.Holds book.old book.new edits.now (λ c v.
-        IsQueue v queue.now → next ≡ v.counters.order + 1 →
-        IfOk result (λ found. found ≡ last_row (items_in c v queue.now))) }
-    ensures kept { IsKept B.IsTrusted B.Holds B.LeavesOneOf book.old book.new }
-    ensures fault { IfErr result (MayAnswer B.MayFault) }
+    ensures { IsRead B.IsTrusted B.Holds B.LeavesOneOf (MayAnswer B.MayFault) book.old book.new (λ c x.
+        (v : State) → IsLed c x edits.now v → IsQueue v queue.now → next ≡ v.counters.order + 1 →
+        IfOk result (λ found. found ≡ last_row (items_in c v queue.now))) result }
 {
     last_below(book, edits, queue, next.get())
 }

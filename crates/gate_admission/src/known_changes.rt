@@ -1,21 +1,21 @@
 //! What is known of a change after edits: its needs, and its project.
-ghost use Rattle.std.specs.Prelude.{◌≡◌, IfOk, IfErr, map, find, option_copied};
+ghost use Rattle.std.specs.Prelude.{◌≡◌, IfOk, map, find, option_copied};
 ghost use Rattle.gate_types.specs.Names.{same_name};
-ghost use Rattle.gate_types.specs.State.{known_change, known_or_closed, need_of};
+ghost use Rattle.gate_types.specs.State.{State, known_change, known_or_closed, need_of};
 ghost use Rattle.gate_book_trait.specs.Faults.{MayAnswer};
-ghost use Rattle.gate_book_trait.specs.Kept.{IsKept};
-ghost use Rattle.gate_admission.specs.Led.{OfLed, OfLedUnder};
-ghost use Rattle.gate_admission.specs.Seen.{last_put};
+ghost use Rattle.gate_book_trait.specs.Reading.{IsRead, IsReadUnder};
+ghost use Rattle.gate_admission.specs.Led.{IsLed};
+ghost use Rattle.gate_admission.specs.Seen.{at_last, last_put, last_stage, stage_put};
 
 use gate_book_trait::{Book, BookFault};
 use gate_types::config::{Config, Project};
 use gate_types::edits::Edit;
 use gate_types::lists::with_one;
 use gate_types::numbers::ChangeNo;
-use gate_types::records::{Change, Need};
+use gate_types::records::{Change, Need, Stage};
 use std::alloc::Global;
 
-fn last_put(edits: &[Edit], number: ChangeNo) -> Option<&Change>
+pub(crate) fn last_put(edits: &[Edit], number: ChangeNo) -> Option<&Change>
     ensures { option_copied result ≡ last_put number edits.now }
 {
     let mut found = None;
@@ -29,20 +29,57 @@ fn last_put(edits: &[Edit], number: ChangeNo) -> Option<&Change>
     found
 }
 
+/// The stage that a change was set to, after one edit more.
+fn stage_put(before: Option<Stage>, edit: &Edit, number: ChangeNo) -> Option<Stage>
+    ensures { result ≡ stage_put number before edit.now }
+{
+    match edit {
+        Edit::PutChange { change, .. } if change.number == number => None,
+        Edit::SetStage { change, stage } if *change == number => Some(*stage),
+        _ => before,
+    }
+}
+
+/// The stage that the edits set a change to, behind its last put.
+fn last_stage(edits: &[Edit], number: ChangeNo) -> Option<Stage>
+    ensures { result ≡ last_stage number edits.now }
+{
+    let mut found = None;
+    for edit in edits {
+        found = stage_put(found, edit, number);
+    }
+    found
+}
+
+/// What is known of a change, at a stage if it was set to one.
+fn at_last(stage: Option<Stage>, known: Option<Change>) -> Option<Change>
+    ensures { result ≡ at_last stage known }
+{
+    match stage {
+        Some(stage) => match known {
+            Some(change) => Some(Change { stage, ..change }),
+            None => None,
+        },
+        None => known,
+    }
+}
+
 /// What is known of a change after the edits.
 pub(crate) fn known<B: Book>(
     book: &mut B,
     edits: &[Edit],
     number: ChangeNo,
 ) -> Result<Option<Change>, BookFault>
-    ensures found { OfLed B.IsTrusted B.Holds book.old book.new edits.now (λ c v.
-        IfOk result (λ found. found ≡ known_change v number)) }
-    ensures kept { IsKept B.IsTrusted B.Holds B.LeavesOneOf book.old book.new }
-    ensures fault { IfErr result (MayAnswer B.MayFault) }
+    ensures { IsRead B.IsTrusted B.Holds B.LeavesOneOf (MayAnswer B.MayFault) book.old book.new (λ c x.
+        (v : State) → IsLed c x edits.now v → IfOk result (λ found. found ≡ known_change v number)) result }
 {
+    let stage = last_stage(edits, number);
     match last_put(edits, number) {
-        Some(change) => Ok(Some(change.copy()?)),
-        None => book.change(number),
+        Some(change) => Ok(at_last(stage, Some(change.copy()?))),
+        None => {
+            let stored = book.change(number)?;
+            Ok(at_last(stage, stored))
+        }
     }
 }
 
@@ -65,11 +102,9 @@ pub fn project_after<'c, B: Book>(
     edits: &[Edit],
     number: ChangeNo,
 ) -> Result<Option<&'c Project>, BookFault>
-    ensures found { OfLedUnder B.IsTrusted B.Holds book.old book.new config.now edits.now (λ v.
-        IfOk result (λ found. option_copied found ≡
-        find (λ p. same_name p.name (known_or_closed (known_change v number)).project) config.now.projects)) }
-    ensures kept { IsKept B.IsTrusted B.Holds B.LeavesOneOf book.old book.new }
-    ensures fault { IfErr result (MayAnswer B.MayFault) }
+    ensures { IsReadUnder B.IsTrusted B.Holds B.LeavesOneOf (MayAnswer B.MayFault) book.old book.new config.now (λ x.
+        (v : State) → IsLed config.now x edits.now v → IfOk result (λ found. option_copied found ≡
+        find (λ p. same_name p.name (known_or_closed (known_change v number)).project) config.now.projects)) result }
 {
     match last_put(edits, number) {
         Some(change) => Ok(config.project(change.project.as_str())),
@@ -81,10 +116,8 @@ pub fn project_after<'c, B: Book>(
 }
 
 fn need<B: Book>(book: &mut B, edits: &[Edit], number: ChangeNo) -> Result<Need, BookFault>
-    ensures found { OfLed B.IsTrusted B.Holds book.old book.new edits.now (λ c v.
-        IfOk result (λ need. need ≡ need_of v number)) }
-    ensures kept { IsKept B.IsTrusted B.Holds B.LeavesOneOf book.old book.new }
-    ensures fault { IfErr result (MayAnswer B.MayFault) }
+    ensures { IsRead B.IsTrusted B.Holds B.LeavesOneOf (MayAnswer B.MayFault) book.old book.new (λ c x.
+        (v : State) → IsLed c x edits.now v → IfOk result (λ need. need ≡ need_of v number)) result }
 {
     let known = known(book, edits, number)?;
     Ok(Need {
@@ -100,10 +133,8 @@ pub(crate) fn needs_with<B: Book>(
     edits: &[Edit],
     numbers: &[ChangeNo],
 ) -> Result<Vec<Need>, BookFault>
-    ensures found { OfLed B.IsTrusted B.Holds book.old book.new edits.now (λ c v.
-        IfOk result (λ needs. needs.items ≡ map (need_of v) numbers.now)) }
-    ensures kept { IsKept B.IsTrusted B.Holds B.LeavesOneOf book.old book.new }
-    ensures fault { IfErr result (MayAnswer B.MayFault) }
+    ensures { IsRead B.IsTrusted B.Holds B.LeavesOneOf (MayAnswer B.MayFault) book.old book.new (λ c x.
+        (v : State) → IsLed c x edits.now v → IfOk result (λ needs. needs.items ≡ map (need_of v) numbers.now)) result }
 {
     let mut needs = Vec::new(alloc);
     for number in numbers {

@@ -1,11 +1,12 @@
 //! The change that enters next: the first of the candidates that may.
-ghost use Rattle.std.specs.Prelude.{◌≡◌, ◌<◌, None, find, IfOk, IfErr, IfNone, IfSome, MatchOption};
+ghost use Rattle.std.specs.Prelude.{◌≡◌, ◌<◌, None, find, IfOk, IfNone, IfSome, MatchOption};
 ghost use Rattle.std.specs.Ordering.{nat_cmp};
 ghost use Rattle.std.specs.BTreeMap.{IsEmpty, IsLowerBound, Updates, btree_map_len};
 ghost use Rattle.gate_types.specs.Admit.{may_enter};
+ghost use Rattle.gate_types.specs.State.{State};
 ghost use Rattle.gate_book_trait.specs.Faults.{MayAnswer};
-ghost use Rattle.gate_book_trait.specs.Kept.{IsKept};
-ghost use Rattle.gate_admission.specs.Led.{OfLedUnder};
+ghost use Rattle.gate_book_trait.specs.Reading.{IsReadUnder};
+ghost use Rattle.gate_admission.specs.Led.{IsLed};
 ghost use Rattle.gate_admission.specs.Candidates.{IsAmong, AreCandidates, EntersFirst};
 ghost use Rattle.gate_admission.specs.Entrants.{IsEntrant};
 
@@ -41,12 +42,10 @@ pub(crate) fn first_to_enter<'c, B: Book>(
     edits: &[Edit],
     waiting: &mut BTreeMap<u64, ChangeNo>,
 ) -> Result<Option<Entrant<'c>>, BookFault>
-    ensures found { OfLedUnder B.IsTrusted B.Holds book.old book.new config.now edits.now (λ v.
-        AreCandidates config.now v waiting.old →
+    ensures { IsReadUnder B.IsTrusted B.Holds B.LeavesOneOf (MayAnswer B.MayFault) book.old book.new config.now (λ x.
+        (v : State) → IsLed config.now x edits.now v → AreCandidates config.now v waiting.old →
         IfOk result (λ found. MatchOption found (find (may_enter config.now v) v.ready ≡ None)
-        (λ e. IsEntrant config.now v e × EntersFirst config.now v e.ready waiting.new))) }
-    ensures kept { IsKept B.IsTrusted B.Holds B.LeavesOneOf book.old book.new }
-    ensures fault { IfErr result (MayAnswer B.MayFault) }
+        (λ e. IsEntrant config.now v e × EntersFirst config.now v e.ready waiting.new))) result }
 {
     while let Some(ready) = next(waiting) {
         if let Some(found) = if_may_enter(alloc, book, config, edits, ready)? {

@@ -1,8 +1,9 @@
 //! The ready list, as it is after edits.
-ghost use Rattle.std.specs.Prelude.{◌≡◌, ◌++◌, not, nat_lt, fold, filter, IfOk, IfErr};
+ghost use Rattle.std.specs.Prelude.{◌≡◌, ◌++◌, not, nat_lt, fold, filter, IfOk};
+ghost use Rattle.gate_types.specs.State.{State};
 ghost use Rattle.gate_book_trait.specs.Faults.{MayAnswer};
-ghost use Rattle.gate_book_trait.specs.Kept.{IsKept};
-ghost use Rattle.gate_admission.specs.Led.{OfLed};
+ghost use Rattle.gate_book_trait.specs.Reading.{IsRead};
+ghost use Rattle.gate_admission.specs.Led.{IsLed};
 ghost use Rattle.gate_admission.specs.Seen.{ready_without, with_approval, ready_after};
 ghost use Rattle.gate_admission.specs.Candidates.{put_ready};
 
@@ -73,6 +74,7 @@ fn after(alloc: Global, ready: Vec<Ready>, edit: &Edit) -> Result<Vec<Ready>, No
             let others = without(alloc, ready.as_slice(), change.number)?;
             with_approval(alloc, *approval, change.number, others)
         }
+        Edit::SetStage { change, .. } => without(alloc, ready.as_slice(), *change),
         _ => Ok(ready),
     }
 }
@@ -100,10 +102,8 @@ pub(crate) fn ready_list<B: Book>(
     book: &mut B,
     edits: &[Edit],
 ) -> Result<Vec<Ready>, BookFault>
-    ensures found { OfLed B.IsTrusted B.Holds book.old book.new edits.now (λ c v.
-        IfOk result (λ found. found.items ≡ v.ready)) }
-    ensures kept { IsKept B.IsTrusted B.Holds B.LeavesOneOf book.old book.new }
-    ensures fault { IfErr result (MayAnswer B.MayFault) }
+    ensures { IsRead B.IsTrusted B.Holds B.LeavesOneOf (MayAnswer B.MayFault) book.old book.new (λ c x.
+        (v : State) → IsLed c x edits.now v → IfOk result (λ found. found.items ≡ v.ready)) result }
 {
     let stored = book.ready()?.into_vec();
     Ok(after_all(alloc, stored, edits)?)

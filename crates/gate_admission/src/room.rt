@@ -1,12 +1,12 @@
 //! Whether a queue has room, after edits.
-ghost use Rattle.std.specs.Prelude.{◌≡◌, ◌≤◌, ◌<◌, ◌+◌, true, false, length, IfOk, IfErr, MatchOption};
+ghost use Rattle.std.specs.Prelude.{◌≡◌, ◌≤◌, ◌<◌, ◌+◌, true, false, length, IfOk, MatchOption};
 ghost use Rattle.std.specs.List.{list_any};
 ghost use Rattle.std.specs.Option.{option_copied};
 ghost use Rattle.gate_types.specs.State.{State};
 ghost use Rattle.gate_book_trait.specs.Faults.{MayAnswer};
-ghost use Rattle.gate_book_trait.specs.Kept.{OfHeld, IsKept};
+ghost use Rattle.gate_book_trait.specs.Reading.{IsRead};
 ghost use Rattle.gate_book_trait.specs.Reads.{items_in, item_count};
-ghost use Rattle.gate_admission.specs.Led.{OfLed};
+ghost use Rattle.gate_admission.specs.Led.{IsLed};
 ghost use Rattle.gate_admission.specs.Seen as seen;
 ghost use Rattle.gate_admission.specs.Known.{IsQueue, has_room};
 ghost use Rattle.gate_admission.specs.Candidates as candidate;
@@ -25,10 +25,9 @@ fn grows<B: Book>(
     queue: &Name,
     edit: &Edit,
 ) -> Result<bool, BookFault>
-    ensures found { OfHeld B.IsTrusted B.Holds book.old book.new (λ c x. IfOk result (λ grows. grows ≡
-        seen.grows queue.now (seen.items_after queue.now (items_in c x.state queue.now) before.now) edit.now)) }
-    ensures kept { IsKept B.IsTrusted B.Holds B.LeavesOneOf book.old book.new }
-    ensures fault { IfErr result (MayAnswer B.MayFault) }
+    ensures { IsRead B.IsTrusted B.Holds B.LeavesOneOf (MayAnswer B.MayFault) book.old book.new (λ c x.
+        IfOk result (λ grows. grows ≡
+        seen.grows queue.now (seen.items_after queue.now (items_in c x.state queue.now) before.now) edit.now)) result }
 {
     match edit {
         Edit::PutItem { queue: name, item } if same_name(name, queue) => {
@@ -38,20 +37,21 @@ fn grows<B: Book>(
     }
 }
 
-/// Whether an edit after others drops an item of a queue.
+/// Whether an edit after others drops an item of a queue, or lands it.
 fn shrinks<B: Book>(
     book: &mut B,
     before: &[Edit],
     queue: &Name,
     edit: &Edit,
 ) -> Result<bool, BookFault>
-    ensures found { OfHeld B.IsTrusted B.Holds book.old book.new (λ c x. IfOk result (λ shrinks. shrinks ≡
-        seen.shrinks (seen.items_after queue.now (items_in c x.state queue.now) before.now) edit.now)) }
-    ensures kept { IsKept B.IsTrusted B.Holds B.LeavesOneOf book.old book.new }
-    ensures fault { IfErr result (MayAnswer B.MayFault) }
+    ensures { IsRead B.IsTrusted B.Holds B.LeavesOneOf (MayAnswer B.MayFault) book.old book.new (λ c x.
+        IfOk result (λ shrinks. shrinks ≡
+        seen.shrinks (seen.items_after queue.now (items_in c x.state queue.now) before.now) edit.now)) result }
 {
     match edit {
-        Edit::DropItem(serial) => Ok(item_at(book, before, queue, *serial)?.is_some()),
+        Edit::DropItem(serial) | Edit::LandItem(serial) => {
+            Ok(item_at(book, before, queue, *serial)?.is_some())
+        }
         _ => Ok(false),
     }
 }
@@ -71,12 +71,11 @@ struct Moves {
 }
 
 fn count_moves<B: Book>(book: &mut B, edits: &[Edit], queue: &Name) -> Result<Moves, BookFault>
-    ensures found { OfHeld B.IsTrusted B.Holds book.old book.new (λ c x. IfOk result (λ moves.
+    ensures reads { IsRead B.IsTrusted B.Holds B.LeavesOneOf (MayAnswer B.MayFault) book.old book.new (λ c x.
+        IfOk result (λ moves.
         length (seen.items_after queue.now (items_in c x.state queue.now) edits.now) + moves.dropped ≡
-        length (items_in c x.state queue.now) + moves.added)) }
+        length (items_in c x.state queue.now) + moves.added)) result }
     ensures few { IfOk result (λ moves. (moves.added ≤ length edits.now) × (moves.dropped ≤ length edits.now)) }
-    ensures kept { IsKept B.IsTrusted B.Holds B.LeavesOneOf book.old book.new }
-    ensures fault { IfErr result (MayAnswer B.MayFault) }
 {
     let mut added = 0;
     let mut dropped = 0;
@@ -104,10 +103,8 @@ fn serials_between(first: Serial, last: Serial) -> u64
 
 /// No fewer than a queue has items, by its first and its last serial: 0 where there is none.
 fn most_items<B: Book>(book: &mut B, queue: &Name) -> Result<u64, BookFault>
-    ensures found { OfHeld B.IsTrusted B.Holds book.old book.new (λ c x.
-        IfOk result (λ most. item_count c x.state queue.now ≤ most)) }
-    ensures kept { IsKept B.IsTrusted B.Holds B.LeavesOneOf book.old book.new }
-    ensures fault { IfErr result (MayAnswer B.MayFault) }
+    ensures { IsRead B.IsTrusted B.Holds B.LeavesOneOf (MayAnswer B.MayFault) book.old book.new (λ c x.
+        IfOk result (λ most. item_count c x.state queue.now ≤ most)) result }
 {
     let Some(first) = book.next_item(queue, 0)? else {
         return Ok(0);
@@ -120,10 +117,8 @@ fn most_items<B: Book>(book: &mut B, queue: &Name) -> Result<u64, BookFault>
 
 /// Whether a queue has its 1,000 items. They are counted only where its serials allow so many.
 fn is_full<B: Book>(book: &mut B, queue: &Name) -> Result<bool, BookFault>
-    ensures found { OfHeld B.IsTrusted B.Holds book.old book.new (λ c x.
-        IfOk result (λ is. is ≡ candidate.is_full x.state queue.now)) }
-    ensures kept { IsKept B.IsTrusted B.Holds B.LeavesOneOf book.old book.new }
-    ensures fault { IfErr result (MayAnswer B.MayFault) }
+    ensures { IsRead B.IsTrusted B.Holds B.LeavesOneOf (MayAnswer B.MayFault) book.old book.new (λ c x.
+        IfOk result (λ is. is ≡ candidate.is_full x.state queue.now)) result }
 {
     if most_items(book, queue)? < MOST_ITEMS {
         return Ok(false);
@@ -157,11 +152,9 @@ fn first_reported(edits: &[Edit]) -> Option<&Name>
 
 /// Whether an edit reports that an item leaves a full queue, where this one isn't full.
 fn makes_room<B: Book>(book: &mut B, edit: &Edit, queue: &Name) -> Result<bool, BookFault>
-    ensures found { OfHeld B.IsTrusted B.Holds book.old book.new (λ c x.
+    ensures { IsRead B.IsTrusted B.Holds B.LeavesOneOf (MayAnswer B.MayFault) book.old book.new (λ c x.
         candidate.is_full x.state queue.now ≡ false →
-        IfOk result (λ makes. makes ≡ candidate.makes_room x.state edit.now)) }
-    ensures kept { IsKept B.IsTrusted B.Holds B.LeavesOneOf book.old book.new }
-    ensures fault { IfErr result (MayAnswer B.MayFault) }
+        IfOk result (λ makes. makes ≡ candidate.makes_room x.state edit.now)) result }
 {
     let Some(other) = reported(edit) else {
         return Ok(false);
@@ -174,11 +167,9 @@ fn makes_room<B: Book>(book: &mut B, edit: &Edit, queue: &Name) -> Result<bool, 
 
 /// The same of some edits. It asks about no queue but others: by a delivery one queue loses items.
 fn others_make_room<B: Book>(book: &mut B, edits: &[Edit], queue: &Name) -> Result<bool, BookFault>
-    ensures found { OfHeld B.IsTrusted B.Holds book.old book.new (λ c x.
+    ensures { IsRead B.IsTrusted B.Holds B.LeavesOneOf (MayAnswer B.MayFault) book.old book.new (λ c x.
         candidate.is_full x.state queue.now ≡ false →
-        IfOk result (λ make. make ≡ list_any (candidate.makes_room x.state) edits.now)) }
-    ensures kept { IsKept B.IsTrusted B.Holds B.LeavesOneOf book.old book.new }
-    ensures fault { IfErr result (MayAnswer B.MayFault) }
+        IfOk result (λ make. make ≡ list_any (candidate.makes_room x.state) edits.now)) result }
 {
     for edit in edits {
         if makes_room(book, edit, queue)? {
@@ -190,10 +181,8 @@ fn others_make_room<B: Book>(book: &mut B, edits: &[Edit], queue: &Name) -> Resu
 
 /// Whether an item leaves a queue that was full.
 pub(crate) fn make_room<B: Book>(book: &mut B, edits: &[Edit]) -> Result<bool, BookFault>
-    ensures found { OfHeld B.IsTrusted B.Holds book.old book.new (λ c x.
-        IfOk result (λ make. make ≡ list_any (candidate.makes_room x.state) edits.now)) }
-    ensures kept { IsKept B.IsTrusted B.Holds B.LeavesOneOf book.old book.new }
-    ensures fault { IfErr result (MayAnswer B.MayFault) }
+    ensures { IsRead B.IsTrusted B.Holds B.LeavesOneOf (MayAnswer B.MayFault) book.old book.new (λ c x.
+        IfOk result (λ make. make ≡ list_any (candidate.makes_room x.state) edits.now)) result }
 {
     let Some(queue) = first_reported(edits) else {
         return Ok(false);
@@ -210,10 +199,9 @@ pub(crate) fn has_room<B: Book>(
     edits: &[Edit],
     queue: &Name,
 ) -> Result<bool, BookFault>
-    ensures found { OfLed B.IsTrusted B.Holds book.old book.new edits.now (λ c v.
-        IsQueue v queue.now → IfOk result (λ has. has ≡ has_room v queue.now)) }
-    ensures kept { IsKept B.IsTrusted B.Holds B.LeavesOneOf book.old book.new }
-    ensures fault { IfErr result (MayAnswer B.MayFault) }
+    ensures { IsRead B.IsTrusted B.Holds B.LeavesOneOf (MayAnswer B.MayFault) book.old book.new (λ c x.
+        (v : State) → IsLed c x edits.now v →
+        IsQueue v queue.now → IfOk result (λ has. has ≡ has_room v queue.now)) result }
 {
     let most = most_items(book, queue)?;
     if u128::from(most) + (edits.len() as u128) < (MOST_ITEMS as u128) {

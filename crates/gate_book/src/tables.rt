@@ -158,7 +158,9 @@ impl MemTables {
             Edit::PutChange { change, approval } => {
                 self.changes.put(ChangeRow { change, approval })
             }
+            Edit::SetStage { change, stage } => self.changes.set_stage(change, stage),
             Edit::DropItem(serial) => self.plans.remove(serial),
+            Edit::LandItem(serial) => self.plans.unmark(serial),
             Edit::PutPlan(plan) => self.plans.put(plan),
             Edit::PutBuild(build) => self.builds.put(build),
             Edit::SetOutcome { build, outcome } => self.builds.set_outcome(build, outcome),

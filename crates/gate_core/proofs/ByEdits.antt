@@ -2,14 +2,14 @@
 use Rattle.std.proofs.Common.{◌≡◌, ◌⊎◌, ℕ, suc, ◌+◌, ◌≤◌, Bool, true, false, not, ◌&&◌, ◌||◌, cond, Option, Some}
 use Rattle.std.proofs.Common.{None, is_some, List, [], ◌∷◌, map, fold, filter, length, refl, sym, ap, ◌∙◌, subst, inl}
 use Rattle.std.proofs.Common.{inr, ⊎_elim, arith, true≢false, length-append}
-use Rattle.std.specs.Prelude.{◌==◌, nat_lt, nat_le, if◌then◌else◌, find, filter_map, unwrap_or}
+use Rattle.std.specs.Prelude.{◌==◌, nat_lt, nat_le, if◌then◌else◌, find, filter_map, option_map, unwrap_or}
 use Rattle.std.specs.List.{list_any}
-use Rattle.std.specs.Option.{option_map_or, option_or}
+use Rattle.std.specs.Option.{option_map_or}
 use Rattle.std.proofs.lemmas.Bool.{and_parts, and_from, or_parts, not-true, eqb-true, eq-eqb}
-use Rattle.std.proofs.lemmas.Option.{none-some}
 use Rattle.std.proofs.lemmas.List.{length-map, map-id}
 use Rattle.gate_types.specs.declared.records.Change.{Change}
 use Rattle.gate_types.specs.declared.records.Ready.{Ready}
+use Rattle.gate_types.specs.declared.records.Stage.{Stage}
 use Rattle.gate_types.specs.declared.records.Stage.TheVariants as stage
 use Rattle.gate_types.specs.declared.records.Verdict.{Verdict}
 use Rattle.gate_types.specs.declared.records.Verdict.TheVariants as verdict
@@ -48,9 +48,9 @@ use Rattle.gate_laws.proofs.Members.{every, from_map, any_from, any_to, none_fro
 use Rattle.gate_laws.proofs.Members.{contains_in}
 use Rattle.gate_reads.specs.Moves.{swept}
 use Rattle.gate_admission.specs.Led.{IsLed}
-use Rattle.gate_admission.specs.Seen.{change_put, last_put}
-use Rattle.gate_admission.specs.Candidates.{needs_it, puts, is_full, makes_room, lets_in, EntersByEdits}
-use Rattle.gate_admission.proofs.Led.{known_led}
+use Rattle.gate_admission.specs.Seen.{change_put, staged}
+use Rattle.gate_admission.specs.Candidates.{is_landing, needs_it, puts, is_full, makes_room, lets_in, EntersByEdits}
+use Rattle.gate_admission.proofs.Led.{put_led}
 use Rattle.gate_admission.proofs.LetIn.{are_putting, was_ready, change_stays}
 use Rattle.gate_settling.proofs.ListLemmas.{each_same}
 use Rattle.gate_book_trait.proofs.ReadLemmas.{length_reports}
@@ -251,7 +251,9 @@ same_reports name rows (edit.PutReport q n r) h =
     ap (λ b. cond b (put_by (λ (x : ReportRow). x.place) (record { place = n; report = r }) rows) rows) h
 same_reports name rows (edit.PutItem q i) h = refl
 same_reports name rows (edit.DropItem n) h = refl
+same_reports name rows (edit.LandItem n) h = refl
 same_reports name rows (edit.PutChange k a) h = refl
+same_reports name rows (edit.SetStage n g) h = refl
 same_reports name rows (edit.PutPlan k) h = refl
 same_reports name rows (edit.PutLanding q p l) h = refl
 same_reports name rows (edit.PutBuild b) h = refl
@@ -277,42 +279,68 @@ reports_after (e ∷ es) q h =
     let both = or_parts (reports_of q.name e) (list_any (reports_of q.name) es) h in
     reports_after es (edited_queue e q) both.1 ∙ same_reports q.name q.reports e both.0
 
--- a change that has landed had landed, or is put as landed
-put_by_edit : (m : ℕ) (o : Option Change) (edits : List Edit) (k : Change) → fold (change_put m) o edits ≡ Some k →
-    (o ≡ Some k) ⊎ ((a : Option ℕ) × In (edit.PutChange k a) edits × (k.number == m ≡ true))
-put_by_edit m o [] k e = inl e
-put_by_edit m o (d ∷ ds) k e = ⊎_elim
-    (λ (h : change_put m o d ≡ Some k). by_edit d h)
-    (λ (h : (a : Option ℕ) × In (edit.PutChange k a) ds × (k.number == m ≡ true)). inr (h.0, inr h.1, h.2))
-    (put_by_edit m (change_put m o d) ds k e)
+-- whether what is known of a change has landed
+abbrev has_landed : Option Change → Bool
+has_landed o = option_map_or is_landed o false
+
+-- an edit puts the change of a number as landed, or sets it so
+abbrev lands : ℕ → Edit → Bool
+lands m (edit.PutChange k a) = k.number == m && is_landed k
+lands m (edit.SetStage n g) = n == m && is_landing g
+lands m _ = false
+
+landed_stage : (g : Stage) (o : Option Change) → has_landed (option_map (staged g) o) ≡ true → is_landing g ≡ true
+landed_stage g None h = absurd (true≢false (sym h))
+landed_stage stage.Landed (Some k) h = refl
+landed_stage stage.Open (Some k) h = absurd (true≢false (sym h))
+landed_stage stage.Closed (Some k) h = absurd (true≢false (sym h))
+
+-- what has landed behind an edit had landed, or the edit lands it
+landed_by : (m : ℕ) (o : Option Change) (d : Edit) → has_landed (change_put m o d) ≡ true →
+    (has_landed o ≡ true) ⊎ (lands m d ≡ true)
+landed_by m o (edit.PutChange j a) h = by_test (j.number == m) h
   where
-    by_edit : (d : Edit) → change_put m o d ≡ Some k →
-        (o ≡ Some k) ⊎ ((a : Option ℕ) × In (edit.PutChange k a) (d ∷ ds) × (k.number == m ≡ true))
-    by_edit (edit.PutChange j a) h = by_test (j.number == m) refl h
-      where
-        by_test : (b : Bool) → j.number == m ≡ b → cond b (Some j) o ≡ Some k →
-            (o ≡ Some k) ⊎ ((a2 : Option ℕ) × In (edit.PutChange k a2) (edit.PutChange j a ∷ ds) × (k.number == m ≡ true))
-        by_test true same g =
-            let is : j ≡ k = ap (λ (x : Option Change). unwrap_or x j) g in
-            inr (a, inl (ap (λ (x : Change). edit.PutChange x a) is), (ap (λ (x : Change). x.number == m) (sym is) ∙ same))
-        by_test false other g = inl g
-    by_edit (edit.PutItem q i) h = inl h
-    by_edit (edit.DropItem n) h = inl h
-    by_edit (edit.PutPlan p) h = inl h
-    by_edit (edit.PutLanding q n l) h = inl h
-    by_edit (edit.PutReport q n p) h = inl h
-    by_edit (edit.PutBuild b) h = inl h
-    by_edit (edit.SetOutcome b p) h = inl h
-    by_edit (edit.StopBuild b) h = inl h
-    by_edit (edit.SetWindow q w) h = inl h
-    by_edit (edit.SetCounter c n) h = inl h
-    by_edit (edit.Keep c) h = inl h
+    by_test : (b : Bool) → has_landed (cond b (Some j) o) ≡ true → (has_landed o ≡ true) ⊎ ((b && is_landed j) ≡ true)
+    by_test true g = inr g
+    by_test false g = inl g
+landed_by m o (edit.SetStage n g) h = by_test (n == m) h
+  where
+    by_test : (b : Bool) → has_landed (cond b (option_map (staged g) o) o) ≡ true →
+        (has_landed o ≡ true) ⊎ ((b && is_landing g) ≡ true)
+    by_test true f = inr (landed_stage g o f)
+    by_test false f = inl f
+landed_by m o (edit.PutItem q i) h = inl h
+landed_by m o (edit.DropItem n) h = inl h
+landed_by m o (edit.LandItem n) h = inl h
+landed_by m o (edit.PutPlan p) h = inl h
+landed_by m o (edit.PutLanding q n l) h = inl h
+landed_by m o (edit.PutReport q n p) h = inl h
+landed_by m o (edit.PutBuild b) h = inl h
+landed_by m o (edit.SetOutcome b p) h = inl h
+landed_by m o (edit.StopBuild b) h = inl h
+landed_by m o (edit.SetWindow q w) h = inl h
+landed_by m o (edit.SetCounter c n) h = inl h
+landed_by m o (edit.Keep c) h = inl h
+
+-- a change that has landed had landed, or an edit lands it
+landed_by_edit : (m : ℕ) (o : Option Change) (edits : List Edit) → has_landed (fold (change_put m) o edits) ≡ true →
+    (has_landed o ≡ true) ⊎ ((e : Edit) × In e edits × (lands m e ≡ true))
+landed_by_edit m o [] h = inl h
+landed_by_edit m o (d ∷ ds) h = ⊎_elim
+    (λ (f : has_landed (change_put m o d) ≡ true). ⊎_elim
+    (λ (p : has_landed o ≡ true). inl p)
+    (λ (p : lands m d ≡ true). inr (d, inl refl, p))
+    (landed_by m o d f))
+    (λ (f : (e : Edit) × In e ds × (lands m e ≡ true)). inr (f.0, inr f.1, f.2))
+    (landed_by_edit m (change_put m o d) ds h)
 
 -- whom an edit puts it lets in
 put_lets_in : (v : State) (r : Ready) (e : Edit) → puts r.change e ≡ true → lets_in v r e ≡ true
 put_lets_in v r (edit.PutChange k a) h = ap (λ b. b || is_landed k && needs_it v k.number r) h
+put_lets_in v r (edit.SetStage n g) h = ap (λ b. b || is_landing g && needs_it v n r) h
 put_lets_in v r (edit.PutItem q i) h = absurd (true≢false (sym h))
 put_lets_in v r (edit.DropItem n) h = absurd (true≢false (sym h))
+put_lets_in v r (edit.LandItem n) h = absurd (true≢false (sym h))
 put_lets_in v r (edit.PutPlan p) h = absurd (true≢false (sym h))
 put_lets_in v r (edit.PutLanding q n l) h = absurd (true≢false (sym h))
 put_lets_in v r (edit.PutReport q n p) h = absurd (true≢false (sym h))
@@ -329,8 +357,10 @@ not_full : (s : State) (name : List ℕ) (e : Edit) → makes_room s e ≡ false
 not_full s name (edit.PutReport q n p) none h =
     ap (is_full s) (sym (same_name_is q name h)) ∙ none
 not_full s name (edit.PutChange k a) none h = absurd (true≢false (sym h))
+not_full s name (edit.SetStage n g) none h = absurd (true≢false (sym h))
 not_full s name (edit.PutItem q i) none h = absurd (true≢false (sym h))
 not_full s name (edit.DropItem n) none h = absurd (true≢false (sym h))
+not_full s name (edit.LandItem n) none h = absurd (true≢false (sym h))
 not_full s name (edit.PutPlan p) none h = absurd (true≢false (sym h))
 not_full s name (edit.PutLanding q n l) none h = absurd (true≢false (sym h))
 not_full s name (edit.PutBuild b) none h = absurd (true≢false (sym h))
@@ -339,6 +369,16 @@ not_full s name (edit.StopBuild b) none h = absurd (true≢false (sym h))
 not_full s name (edit.SetWindow q w) none h = absurd (true≢false (sym h))
 not_full s name (edit.SetCounter k n) none h = absurd (true≢false (sym h))
 not_full s name (edit.Keep k) none h = absurd (true≢false (sym h))
+
+or_true : (b : Bool) → (b || true) ≡ true
+or_true true = refl
+or_true false = refl
+
+-- the same of the closed change that stands for an unknown one
+landed_of : (m : ℕ) (o : Option Change) → has_landed o ≡
+    is_landed (unwrap_or o (record { number = m; project = []; revision = 0; stage = stage.Closed; needs = [] }))
+landed_of m None = refl
+landed_of m (Some k) = refl
 
 not_thousand : (n : ℕ) → nat_le most_items n ≡ false → nat_lt n most_items ≡ true
 not_thousand n h = grind (arith, h)
@@ -378,40 +418,41 @@ module _ (c : Settings) (x : Content) (edits : List Edit) (v : State) (sound : I
   same_change : change_of v y.change ≡ change_of x.state y.change
   same_change = change_stays c x edits v sound led y not_put
 
+  -- an edit that lands a need lets this one in
+  land_lets_in : (m : ℕ) (e : Edit) → list_any (λ n. n == m) (change_of v y.change).needs ≡ true → lands m e ≡ true →
+      lets_in v y e ≡ true
+  land_lets_in m (edit.PutChange k a) needs h =
+      let both = and_parts (k.number == m) (is_landed k) h in
+      ap (λ b. k.number == y.change || b) (and_from (is_landed k) (needs_it v k.number y) both.1
+      (ap (λ n. list_any (λ j. j == n) (change_of v y.change).needs) (eqb-true k.number m both.0) ∙ needs))
+      ∙ or_true (k.number == y.change)
+  land_lets_in m (edit.SetStage n g) needs h =
+      let both = and_parts (n == m) (is_landing g) h in
+      ap (λ b. n == y.change || b) (and_from (is_landing g) (needs_it v n y) both.1
+      (ap (λ z. list_any (λ j. j == z) (change_of v y.change).needs) (eqb-true n m both.0) ∙ needs))
+      ∙ or_true (n == y.change)
+  land_lets_in m (edit.PutItem q i) needs h = absurd (true≢false (sym h))
+  land_lets_in m (edit.DropItem n) needs h = absurd (true≢false (sym h))
+  land_lets_in m (edit.LandItem n) needs h = absurd (true≢false (sym h))
+  land_lets_in m (edit.PutPlan p) needs h = absurd (true≢false (sym h))
+  land_lets_in m (edit.PutLanding q n l) needs h = absurd (true≢false (sym h))
+  land_lets_in m (edit.PutReport q n p) needs h = absurd (true≢false (sym h))
+  land_lets_in m (edit.PutBuild b) needs h = absurd (true≢false (sym h))
+  land_lets_in m (edit.SetOutcome b o) needs h = absurd (true≢false (sym h))
+  land_lets_in m (edit.StopBuild b) needs h = absurd (true≢false (sym h))
+  land_lets_in m (edit.SetWindow q w) needs h = absurd (true≢false (sym h))
+  land_lets_in m (edit.SetCounter k n) needs h = absurd (true≢false (sym h))
+  land_lets_in m (edit.Keep k) needs h = absurd (true≢false (sym h))
+
   -- a need that has landed had
   had_landed : (m : ℕ) → list_any (λ n. n == m) (change_of v y.change).needs ≡ true →
       is_landed (change_of v m) ≡ true → is_landed (change_of x.state m) ≡ true
-  had_landed m needs h = by_put (last_put m edits) refl (sym (known_led c x edits v m led))
-    where
-      closed : Change
-      closed = record { number = m; project = []; revision = 0; stage = stage.Closed; needs = [] }
-
-      by_put : (o : Option Change) → last_put m edits ≡ o →
-          known_change v m ≡ option_or (last_put m edits) (known_change x.state m) →
-          is_landed (change_of x.state m) ≡ true
-      by_put None e known =
-          ap (λ (o : Option Change). is_landed (unwrap_or o closed))
-          (sym (known ∙ ap (λ o. option_or o (known_change x.state m)) e)) ∙ h
-      by_put (Some k) e known = ⊎_elim
-          (λ (f : None ≡ Some k). absurd (none-some k f))
-          (λ (f : (a : Option ℕ) × In (edit.PutChange k a) edits × (k.number == m ≡ true)).
-          absurd (true≢false (sym (lets f.0 f.2) ∙ (neither (edit.PutChange k f.0) f.1).1)))
-          (put_by_edit m None edits k e)
-        where
-          landed : is_landed k ≡ true
-          landed = ap (λ (o : Option Change). is_landed (unwrap_or o closed))
-              (sym (known ∙ ap (λ o. option_or o (known_change x.state m)) e)) ∙ h
-
-          needed : k.number == m ≡ true → needs_it v k.number y ≡ true
-          needed g = ap (λ n. list_any (λ j. j == n) (change_of v y.change).needs) (eqb-true k.number m g) ∙ needs
-
-          or_true : (b : Bool) → (b || true) ≡ true
-          or_true true = refl
-          or_true false = refl
-
-          lets : (a : Option ℕ) → k.number == m ≡ true → lets_in v y (edit.PutChange k a) ≡ true
-          lets a g = ap (λ b. k.number == y.change || b) (and_from (is_landed k) (needs_it v k.number y) landed (needed g))
-              ∙ or_true (k.number == y.change)
+  had_landed m needs h = ⊎_elim
+      (λ (f : has_landed (known_change x.state m) ≡ true). sym (landed_of m (known_change x.state m)) ∙ f)
+      (λ (f : (e : Edit) × In e edits × (lands m e ≡ true)).
+      absurd (true≢false (sym (land_lets_in m f.0 needs f.2) ∙ (neither f.0 f.1).1)))
+      (landed_by_edit m (known_change x.state m) edits
+      (ap has_landed (put_led c x edits v m led) ∙ landed_of m (known_change v m) ∙ h))
 
   -- needs that are met by what has become of a queue were met by it
   were_met : (q p : Queue) → IsLess q p → are_met_by p.items (needs_of v y.change) ≡ true →

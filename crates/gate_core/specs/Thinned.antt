@@ -11,10 +11,19 @@ use Rattle.gate_types.specs.declared.edits.Edit.TheVariants as edit
 use Rattle.gate_types.specs.Names.{same_name}
 use Rattle.gate_reads.specs.declared.raw.PendingReply.{PendingReply}
 use Rattle.gate_reads.specs.declared.raw.PendingReply.TheVariants as pending
-use Rattle.gate_admission.specs.Candidates.{puts}
 use Rattle.gate_core.specs.declared.thinned.Later.{Later}
 
 -- ---- what a later edit sets again
+
+-- it puts the row of a change
+abbrev pub puts_row : ℕ → Edit → Bool
+puts_row n (edit.PutChange k approval) = k.number == n
+puts_row n _ = false
+
+-- it sets the stage of a change
+abbrev pub sets_stage : ℕ → Edit → Bool
+sets_stage n (edit.SetStage m g) = m == n
+sets_stage n _ = false
 
 -- two counters are the same
 abbrev pub same_counter : Counter → Counter → Bool
@@ -35,17 +44,17 @@ sets_window name _ = false
 
 -- it sets the row of a change, a counter or a window, and one of these does again
 abbrev pub is_replaced : Edit → List Edit → Bool
-is_replaced (edit.PutChange k approval) later = list_any (puts k.number) later
+is_replaced (edit.PutChange k approval) later = list_any (puts_row k.number) later
 is_replaced (edit.SetCounter k n) later = list_any (draws k) later
 is_replaced (edit.SetWindow queue w) later = list_any (sets_window queue) later
 is_replaced _ later = false
 
 -- ---- the change that enters at once
 
--- the change that a delivery makes ready, if it makes one so
-abbrev pub newly_ready : PendingReply → Option ℕ
-newly_ready (pending.Now r) = None
-newly_ready (pending.PlaceOf n) = Some n
+-- the change that a delivery makes ready, if it makes one so whose stage no edit sets
+abbrev pub newly_ready : PendingReply → List Edit → Option ℕ
+newly_ready (pending.Now r) edits = None
+newly_ready (pending.PlaceOf n) edits = if list_any (sets_stage n) edits then None else Some n
 
 -- it puts the change that was made ready as one that isn't: it entered at once
 abbrev pub puts_back : Option ℕ → Edit → Bool
@@ -85,7 +94,7 @@ pub record HasNoted (queue : List ℕ) (old new : Later) : Type 0 where
 
 -- these are the numbers of the changes that the edits put
 abbrev pub AreNumbersOf : List Edit → BTreeSet ℕ → Type 0
-AreNumbersOf edits numbers = (n : ℕ) → contains nat_cmp numbers n ≡ list_any (puts n) edits
+AreNumbersOf edits numbers = (n : ℕ) → contains nat_cmp numbers n ≡ list_any (puts_row n) edits
 
 -- this is what the edits set
 pub record IsNotedOf (edits : List Edit) (s : Later) : Type 0 where

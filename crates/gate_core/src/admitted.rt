@@ -1,5 +1,5 @@
 //! Admission behind a delivery.
-ghost use Rattle.std.specs.Prelude.{◌≡◌, false, true, IfOk, IfErr, MatchOption};
+ghost use Rattle.std.specs.Prelude.{◌≡◌, false, true, IfOk, MatchOption};
 ghost use Rattle.gate_types.specs.declared.deliveries.Reply.{Reply as ReplyOf};
 ghost use Rattle.gate_types.specs.State.{State};
 ghost use Rattle.gate_types.specs.Settle.{settle};
@@ -8,7 +8,7 @@ ghost use Rattle.gate_types.specs.Lawful.{IsSound};
 ghost use Rattle.gate_types.specs.Tables.{Leads};
 ghost use Rattle.gate_types.specs.declared.deliveries.Delivery.{Delivery as DeliveryOf};
 ghost use Rattle.gate_book_trait.specs.Faults.{MayAnswer};
-ghost use Rattle.gate_book_trait.specs.Kept.{OfHeldUnder, IsKept};
+ghost use Rattle.gate_book_trait.specs.Reading.{IsReadUnder};
 ghost use Rattle.gate_reads.specs.Moves.{in_state, swept};
 
 use gate_admission::admitting;
@@ -27,15 +27,13 @@ pub(crate) fn admitted<B: Book>(
     config: &Config,
     edits: Vec<Edit>,
 ) -> Result<Option<Vec<Edit>>, BookFault>
-    ensures admitted { OfHeldUnder B.IsTrusted B.Holds book.old book.new config.now (λ x.
+    ensures { IsReadUnder B.IsTrusted B.Holds B.LeavesOneOf (MayAnswer B.MayFault) book.old book.new config.now (λ x.
         (d : DeliveryOf) (r : ReplyOf) (t : State) →
         raw_step config.now x.state d ≡ accepted r t → IsSound config.now (swept config.now t) →
         Leads config.now x edits.items (in_state x (swept config.now t)) →
         IfOk result (λ found. MatchOption found (is_exhausted (settle config.now t) ≡ true)
         (λ all. Leads config.now x all.items (in_state x (settle config.now t)) ×
-        (is_exhausted (settle config.now t) ≡ false)))) }
-    ensures kept { IsKept B.IsTrusted B.Holds B.LeavesOneOf book.old book.new }
-    ensures fault { IfErr result (MayAnswer B.MayFault) }
+        (is_exhausted (settle config.now t) ≡ false)))) result }
 {
     config.show_sound();
     rest::settled_is_at_rest();

@@ -2,7 +2,8 @@
 ghost use Rattle.std.specs.Prelude.{◌≡◌, ◌++◌, IfOk, IfErr};
 ghost use Rattle.gate_types.specs.declared.deliveries.Delivery.{Delivery as DeliveryOf};
 ghost use Rattle.gate_book_trait.specs.Faults.{MayAnswer};
-ghost use Rattle.gate_book_trait.specs.Kept.{OfHeldUnder, IsKept};
+ghost use Rattle.gate_book_trait.specs.Kept.{OfHeldUnder};
+ghost use Rattle.gate_book_trait.specs.Reading.{IsReadUnder};
 ghost use Rattle.gate_reads.specs.Raw.{IsMoved};
 ghost use Rattle.gate_ruling.specs.Faults.{MayRule};
 ghost use Rattle.gate_core.specs.Ruled.{IsRuled};
@@ -35,10 +36,8 @@ pub(crate) fn rule<B: Book>(
     config: &Config,
     delivery: &Delivery,
 ) -> Result<Ruled, BookFault>
-    ensures ruled { OfHeldUnder B.IsTrusted B.Holds book.old book.new config.now (λ x.
-        IfOk result (IsRuled config.now x delivery.now)) }
-    ensures kept { IsKept B.IsTrusted B.Holds B.LeavesOneOf book.old book.new }
-    ensures fault { IfErr result (MayRule B.MayFault) }
+    ensures reads { IsReadUnder B.IsTrusted B.Holds B.LeavesOneOf (MayRule B.MayFault) book.old book.new config.now
+        (λ x. IfOk result (IsRuled config.now x delivery.now)) result }
     ensures undamaged { OfHeldUnder B.IsTrusted B.Holds book.old book.new config.now (λ x.
         IfErr result (MayAnswer B.MayFault)) }
 {
@@ -56,10 +55,8 @@ fn settle<B: Book>(
     config: &Config,
     moved: Moved,
 ) -> Result<Ruled, BookFault>
-    ensures ruled { OfHeldUnder B.IsTrusted B.Holds book.old book.new config.now (λ x. (d : DeliveryOf) →
-        IsMoved config.now x d moved → IfOk result (IsRuled config.now x d)) }
-    ensures kept { IsKept B.IsTrusted B.Holds B.LeavesOneOf book.old book.new }
-    ensures fault { IfErr result (MayAnswer B.MayFault) }
+    ensures { IsReadUnder B.IsTrusted B.Holds B.LeavesOneOf (MayAnswer B.MayFault) book.old book.new config.now (λ x.
+        (d : DeliveryOf) → IsMoved config.now x d moved → IfOk result (IsRuled config.now x d)) result }
 {
     config.show_sound();
     runs::raw_step_is_sound();
@@ -74,7 +71,7 @@ fn settle<B: Book>(
     let settled = joined(edits, settling(alloc, book, config, &touched)?)?;
     match admitted(alloc, book, config, settled)? {
         Some(all) => {
-            let ready = newly_ready(&pending);
+            let ready = newly_ready(&pending, &all);
             let reply = speak(book, config, pending, &all)?;
             Ok(Ruled::Accepted(reply, thinned(alloc, &ready, all)?))
         }

@@ -1,11 +1,11 @@
 //! The reply to an accepted delivery.
-ghost use Rattle.std.specs.Prelude.{◌≡◌, IfOk, IfErr};
+ghost use Rattle.std.specs.Prelude.{◌≡◌, IfOk};
 ghost use Rattle.gate_types.specs.State.{State};
 ghost use Rattle.gate_types.specs.Step.{approval_reply};
 ghost use Rattle.gate_types.specs.Lawful.{IsSound};
 ghost use Rattle.gate_types.specs.Tables.{Leads};
 ghost use Rattle.gate_book_trait.specs.Faults.{MayAnswer};
-ghost use Rattle.gate_book_trait.specs.Kept.{OfHeldUnder, IsKept};
+ghost use Rattle.gate_book_trait.specs.Reading.{IsReadUnder};
 ghost use Rattle.gate_reads.specs.Moves.{in_state};
 ghost use Rattle.gate_reads.specs.Raw.{reply_by};
 
@@ -24,11 +24,9 @@ fn place_of<B: Book>(
     edits: &[Edit],
     change: ChangeNo,
 ) -> Result<Reply, BookFault>
-    ensures told { OfHeldUnder B.IsTrusted B.Holds book.old book.new config.now (λ x. (u : State) →
-        IsSound config.now u → Leads config.now x edits.now (in_state x u) →
-        IfOk result (λ reply. reply ≡ approval_reply change u)) }
-    ensures kept { IsKept B.IsTrusted B.Holds B.LeavesOneOf book.old book.new }
-    ensures fault { IfErr result (MayAnswer B.MayFault) }
+    ensures { IsReadUnder B.IsTrusted B.Holds B.LeavesOneOf (MayAnswer B.MayFault) book.old book.new config.now (λ x.
+        (u : State) → IsSound config.now u → Leads config.now x edits.now (in_state x u) →
+        IfOk result (λ reply. reply ≡ approval_reply change u)) result }
 {
     config.show_sound();
     let Some(project) = project_after(book, config, edits, change)? else {
@@ -47,11 +45,9 @@ pub(crate) fn speak<B: Book>(
     pending: PendingReply,
     edits: &[Edit],
 ) -> Result<Reply, BookFault>
-    ensures said { OfHeldUnder B.IsTrusted B.Holds book.old book.new config.now (λ x. (u : State) →
-        IsSound config.now u → Leads config.now x edits.now (in_state x u) →
-        IfOk result (λ reply. reply ≡ reply_by pending u)) }
-    ensures kept { IsKept B.IsTrusted B.Holds B.LeavesOneOf book.old book.new }
-    ensures fault { IfErr result (MayAnswer B.MayFault) }
+    ensures { IsReadUnder B.IsTrusted B.Holds B.LeavesOneOf (MayAnswer B.MayFault) book.old book.new config.now (λ x.
+        (u : State) → IsSound config.now u → Leads config.now x edits.now (in_state x u) →
+        IfOk result (λ reply. reply ≡ reply_by pending u)) result }
 {
     match pending {
         PendingReply::Now(reply) => Ok(reply),

@@ -4,8 +4,7 @@ ghost use Rattle.std.specs.List.{list_any};
 ghost use Rattle.gate_types.specs.declared.edits.Edit.{Edit as EditOf};
 ghost use Rattle.gate_types.specs.declared.edits.Edit.TheVariants as edit;
 ghost use Rattle.gate_core.specs.Thinned as thinning;
-ghost use Rattle.gate_core.specs.Thinned.{is_replaced, puts_back, AreNumbersOf, IsNotedOf};
-ghost use Rattle.gate_admission.specs.Candidates.{puts};
+ghost use Rattle.gate_core.specs.Thinned.{is_replaced, puts_back, puts_row, AreNumbersOf, IsNotedOf};
 
 use gate_reads::PendingReply;
 use gate_types::edits::{Counter, Edit};
@@ -71,13 +70,36 @@ fn is_named(queues: &[Name], name: &Name) -> bool
     queues.iter().any(|queue| same_name(queue, name))
 }
 
-/// The change that a delivery makes ready, if it makes one so: its reply tells where that stands.
-pub(crate) fn newly_ready(pending: &PendingReply) -> Option<ChangeNo>
-    ensures { result ≡ thinning.newly_ready pending.now }
+fn sets_stage(edit: &Edit, number: ChangeNo) -> bool
+    ensures { result ≡ thinning.sets_stage number edit.now }
+{
+    match edit {
+        Edit::SetStage { change, .. } => *change == number,
+        _ => false,
+    }
+}
+
+/// Whether an edit sets the stage of a change.
+fn is_stage_set(edits: &[Edit], number: ChangeNo) -> bool
+    ensures { result ≡ list_any (thinning.sets_stage number) edits.now }
+{
+    edits.iter().any(|edit| sets_stage(edit, number))
+}
+
+/// The change that a delivery makes ready, if it makes one so whose stage no edit sets: its reply tells where that
+/// stands.
+pub(crate) fn newly_ready(pending: &PendingReply, edits: &[Edit]) -> Option<ChangeNo>
+    ensures { result ≡ thinning.newly_ready pending.now edits.now }
 {
     match pending {
         PendingReply::Now(_) => None,
-        PendingReply::PlaceOf(change) => Some(*change),
+        PendingReply::PlaceOf(change) => {
+            if is_stage_set(edits, *change) {
+                None
+            } else {
+                Some(*change)
+            }
+        }
     }
 }
 
@@ -94,7 +116,7 @@ fn puts_back(newly_ready: &Option<ChangeNo>, change: &Change, approval: Option<u
 /// Whether no later edit puts a change, where they put those of these numbers; this one is noted.
 fn is_last_put(change: &Change, numbers: &mut BTreeSet<u64>) -> Result<bool, NoMemory>
     ensures last { (edits : List EditOf) → AreNumbersOf edits numbers.old →
-        IfOk result (λ last. last ≡ not (list_any (puts change.now.number) edits)) }
+        IfOk result (λ last. last ≡ not (list_any (puts_row change.now.number) edits)) }
     ensures noted { (edits : List EditOf) → AreNumbersOf edits numbers.old → (approval : Option ℕ) →
         OnOk result (AreNumbersOf (edit.PutChange change.now approval ∷ edits) numbers.new) }
 {
@@ -130,7 +152,7 @@ fn push_if(staying: bool, all: &mut Vec<Edit>, edit: Edit) -> Result<(), NoMemor
 }
 
 /// The edits that a delivery makes, in their order: they lead to the same tables. An edit that a later one replaces isn't
-/// made. Nor is the put of a change that was made ready and entered at once, since its row stands. It goes from the
+/// made; a put behind which only the stage of the change is set is. Nor is the put of a change that was made ready and entered at once, since its row stands. It goes from the
 /// back, so that the cost is that of a look-up for each edit.
 pub(crate) fn thinned(
     alloc: Global,

@@ -54,8 +54,10 @@ window_keeps name w (q ∷ qs) =
 -- so does each edit
 edit_keeps_names : (e : Edit) (b : Stored) → names_in (after_edit e b) ≡ names_in b
 edit_keeps_names (edit.PutChange k a) b = refl
+edit_keeps_names (edit.SetStage n g) b = refl
 edit_keeps_names (edit.PutItem name i) b = refl
 edit_keeps_names (edit.DropItem n) b = refl
+edit_keeps_names (edit.LandItem n) b = refl
 edit_keeps_names (edit.PutPlan p) b = refl
 edit_keeps_names (edit.PutLanding name n l) b = refl
 edit_keeps_names (edit.PutReport name n r) b = refl
@@ -88,8 +90,10 @@ names_queue _ b known = tt
 -- each edit leaves the settings
 edit_keeps_settings : (e : Edit) (b : Stored) → (after_edit e b).settings ≡ b.settings
 edit_keeps_settings (edit.PutChange k a) b = refl
+edit_keeps_settings (edit.SetStage n g) b = refl
 edit_keeps_settings (edit.PutItem name i) b = refl
 edit_keeps_settings (edit.DropItem n) b = refl
+edit_keeps_settings (edit.LandItem n) b = refl
 edit_keeps_settings (edit.PutPlan p) b = refl
 edit_keeps_settings (edit.PutLanding name n l) b = refl
 edit_keeps_settings (edit.PutReport name n r) b = refl

@@ -1,5 +1,5 @@
-//! What is written to a gate's file but for its upgrade: its tables and first rows, the edits of a delivery, all or none,
-//! and other settings.
+//! What is written to a gate's file but for its upgrade: its tables and first rows, the edits of a delivery, all or
+//! none, and other settings.
 //!
 //! ```text
 //! let mut tx = conn.transaction();

@@ -19,7 +19,12 @@ docs_vote window = record {
   base = base;
   queues = queue core window ∷ queue (codes "web") 2 ∷ [];
   projects =
-      record { name = lib; queue = core; jobs = unit ∷ record { name = codes "docs"; voting = true } ∷ []; fail_fast = false } ∷
+      record {
+        name = lib;
+        queue = core;
+        jobs = unit ∷ record { name = codes "docs"; voting = true } ∷ [];
+        fail_fast = false;
+      } ∷
       record { name = app; queue = core; jobs = unit ∷ []; fail_fast = false } ∷
       record { name = site; queue = codes "web"; jobs = unit ∷ []; fail_fast = false } ∷ [];
 }
@@ -30,7 +35,8 @@ calls id ds = map called (numbered id ds)
 
 -- 101 is admitted and both its builds are given; then `docs` votes, and its build fails
 abbrev docs_failed : List Event
-docs_failed = calls 1 (opened 101 lib ∷ approved 101 ∷ take ∷ take ∷ []) ++ (set (docs_vote 2) ∷ calls 11 (failed 2 ∷ []))
+docs_failed =
+    calls 1 (opened 101 lib ∷ approved 101 ∷ take ∷ take ∷ []) ++ (set (docs_vote 2) ∷ calls 11 (failed 2 ∷ []))
 
 -- 101 lands, and 103 is admitted, whose `docs` fail too
 abbrev both_tested : List Event

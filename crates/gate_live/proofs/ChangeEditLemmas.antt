@@ -1,26 +1,28 @@
 -- The changes that are held: what edits make of them.
 use Rattle.std.proofs.Common.{◌≡◌, ℕ, suc, ◌+◌, ◌≤◌, Bool, true, false, cond, Option, Some, None, List, [], ◌∷◌}
-use Rattle.std.proofs.Common.{length, refl, sym, ap, subst, ◌∙◌, eqb-true, arith, true≢false}
-use Rattle.std.specs.Prelude.{◌==◌, ◌||◌, fold, is_some, OnOk, OnErr, Result, Ok, Err, option_map, option_and_then}
+use Rattle.std.proofs.Common.{refl, sym, ap, subst, ◌∙◌, eqb-true, arith, true≢false}
+use Rattle.std.specs.Prelude.{◌==◌, ◌||◌, filter, fold, is_some, OnOk, OnErr, Result, Ok, Err, option_map}
+use Rattle.std.specs.Prelude.{option_and_then}
 use Rattle.std.specs.Option.{option_map_or}
 use Rattle.std.proofs.lemmas.Bool.{false≢true}
 use Rattle.gate_types.specs.declared.edits.Edit.{Edit}
 use Rattle.gate_types.specs.declared.edits.Edit.TheVariants as edit
 use Rattle.gate_types.specs.declared.records.Change.{Change}
+use Rattle.gate_types.specs.declared.records.Stage.{Stage}
 use Rattle.gate_types.specs.declared.rows.ChangeRow.{ChangeRow}
-use Rattle.gate_types.specs.Tables.{edited_changes}
+use Rattle.gate_types.specs.Tables.{at_stage, change_known, edited_changes}
 use Rattle.gate_types.specs.Keys.{number_of_change}
-use Rattle.gate_book_trait.specs.RowReads.{row_of, approval_in, change_in}
+use Rattle.gate_types.proofs.ChangedLemmas.{found_changed}
+use Rattle.gate_book_trait.specs.RowReads.{change_row_in, approval_in, change_in}
 use Rattle.gate_book_trait.proofs.Finding.{found_has}
 use Rattle.gate_memory.specs.Sorted.{without}
 use Rattle.gate_memory.specs.Changes.{HasRoom}
-use Rattle.gate_memory.specs.Needs.{needs_of_all}
 use Rattle.gate_memory.specs.declared.changes.ChangeTable.{ChangeTable}
 use Rattle.gate_memory.proofs.RoomLemmas.{changes_fewer}
 use Rattle.gate_memory.specs.HeldQueues.{LiveQueue}
-use Rattle.gate_live.specs.HeldChanges.{AnyAreHeldOf, AreRowsOf, rows_edited, has_row, with_row, with_rows, rows_put}
-use Rattle.gate_live.specs.HeldChanges.{needs_of_rows, without_change, without_left, change_touched}
-use Rattle.gate_live.specs.HeldChanges.{is_queued_in}
+use Rattle.gate_live.specs.HeldChanges.{AnyAreHeldOf, AreRowsOf, rows_edited, has_row, with_row, edited_rows, fold_rows}
+use Rattle.gate_live.specs.HeldChanges.{is_of_changes, is_queued_in, without_change, without_left}
+use Rattle.gate_live.specs.HeldChanges.{change_touched}
 use Rattle.gate_live.proofs.HeldChangeLemmas.{approval_of_row, put_row, put_same, put_other, put_found, without_other}
 use Rattle.gate_live.proofs.HeldChangeLemmas.{without_same, approval_held}
 
@@ -33,20 +35,20 @@ held_with_row rows all r held = by_test (is_some r.approval || has_row rows r.ch
     neither false b e = (refl, e)
 
     -- it is put in both
-    both_own : (n : ℕ) (t : Bool) → r.change.number == n ≡ t → is_some (row_of (put_row rows r) n) ≡ true → row_of (put_row rows r) n ≡ row_of (put_row all r) n
+    both_own : (n : ℕ) (t : Bool) → r.change.number == n ≡ t → is_some (change_row_in (put_row rows r) n) ≡ true → change_row_in (put_row rows r) n ≡ change_row_in (put_row all r) n
     both_own n true e here = put_found r rows n e ∙ sym (put_found r all n e)
     both_own n false e here = put_same r rows all n (λ f. held.own n (sym (ap is_some (put_other r rows n e)) ∙ here))
 
-    both_ready : (n : ℕ) (t : Bool) → r.change.number == n ≡ t → is_some (approval_in (put_row all r) n) ≡ true → row_of (put_row rows r) n ≡ row_of (put_row all r) n
+    both_ready : (n : ℕ) (t : Bool) → r.change.number == n ≡ t → is_some (approval_in (put_row all r) n) ≡ true → change_row_in (put_row rows r) n ≡ change_row_in (put_row all r) n
     both_ready n true e here = put_found r rows n e ∙ sym (put_found r all n e)
     both_ready n false e here = put_same r rows all n (λ f. held.ready n (sym (ap (λ o. is_some (option_and_then approval_of_row o)) (put_other r all n e)) ∙ here))
 
     -- it is put in neither of those that are held
-    none_own : has_row rows r.change.number ≡ false → (n : ℕ) (t : Bool) → r.change.number == n ≡ t → has_row rows n ≡ true → row_of rows n ≡ row_of (put_row all r) n
+    none_own : has_row rows r.change.number ≡ false → (n : ℕ) (t : Bool) → r.change.number == n ≡ t → has_row rows n ≡ true → change_row_in rows n ≡ change_row_in (put_row all r) n
     none_own none n true e here = absurd (false≢true (sym none ∙ ap (has_row rows) (eqb-true r.change.number n e) ∙ here))
     none_own none n false e here = held.own n here ∙ sym (put_other r all n e)
 
-    none_ready : is_some r.approval ≡ false → (n : ℕ) (t : Bool) → r.change.number == n ≡ t → is_some (approval_in (put_row all r) n) ≡ true → row_of rows n ≡ row_of (put_row all r) n
+    none_ready : is_some r.approval ≡ false → (n : ℕ) (t : Bool) → r.change.number == n ≡ t → is_some (approval_in (put_row all r) n) ≡ true → change_row_in rows n ≡ change_row_in (put_row all r) n
     none_ready none n true e here = absurd (false≢true (sym none ∙ sym (ap (λ o. is_some (option_and_then approval_of_row o)) (put_found r all n e)) ∙ here))
     none_ready none n false e here = held.ready n (sym (ap (λ o. is_some (option_and_then approval_of_row o)) (put_other r all n e)) ∙ here) ∙ sym (put_other r all n e)
 
@@ -56,35 +58,62 @@ held_with_row rows all r held = by_test (is_some r.approval || has_row rows r.ch
         let none = neither (is_some r.approval) (has_row rows r.change.number) e in
         record { own = λ n here. none_own none.1 n (r.change.number == n) refl here; ready = λ n here. none_ready none.0 n (r.change.number == n) refl here }
 
--- each of some rows
-held_with_rows : (rs rows all : List ChangeRow) → AreRowsOf rows all → AreRowsOf (with_rows rows rs) (fold put_row all rs)
-held_with_rows [] rows all held = held
-held_with_rows (r ∷ rs) rows all held = held_with_rows rs (with_row rows r) (put_row all r) (held_with_row rows all r held)
+-- a stage set among all: the change isn't ready then, so it may be held or not
+held_with_stage : (rows all : List ChangeRow) (n : ℕ) (g : Stage) → AreRowsOf rows all → AreRowsOf (change_known n (at_stage g) rows) (change_known n (at_stage g) all)
+held_with_stage rows all n g held = record {
+  own = λ m here. same m (held.own m (sym (still_some (change_row_in rows m)) ∙ sym (ap is_some (found m rows)) ∙ here));
+  ready = λ m here. same m (by_row m (change_row_in all m) refl (sym (ap (λ o. is_some (option_and_then approval_of_row o)) (found m all)) ∙ here));
+}
+  where
+    found : (m : ℕ) (rs : List ChangeRow) → change_row_in (change_known n (at_stage g) rs) m ≡ option_map (λ (r : ChangeRow). cond (r.change.number == n) (at_stage g r) r) (change_row_in rs m)
+    found m rs = found_changed number_of_change n (at_stage g) (λ r. refl) m rs
 
--- edits put just their rows
-edits_put : (edits : List Edit) (all : List ChangeRow) → fold edited_changes all edits ≡ fold put_row all (rows_put edits)
-edits_put [] all = refl
-edits_put (edit.PutChange k a ∷ es) all = edits_put es (put_row all (record { change = k; approval = a }))
-edits_put (_ ∷ es) all = edits_put es all
+    still_some : (o : Option ChangeRow) → is_some (option_map (λ (r : ChangeRow). cond (r.change.number == n) (at_stage g r) r) o) ≡ is_some o
+    still_some None = refl
+    still_some (Some r) = refl
+
+    same : (m : ℕ) → change_row_in rows m ≡ change_row_in all m → change_row_in (change_known n (at_stage g) rows) m ≡ change_row_in (change_known n (at_stage g) all) m
+    same m e = found_changed number_of_change n (at_stage g) (λ r. refl) m rows ∙ ap (option_map (λ (r : ChangeRow). cond (r.change.number == n) (at_stage g r) r)) e ∙ sym (found_changed number_of_change n (at_stage g) (λ r. refl) m all)
+
+    by_row : (m : ℕ) (o : Option ChangeRow) → change_row_in all m ≡ o → is_some (option_and_then approval_of_row (option_map (λ (r : ChangeRow). cond (r.change.number == n) (at_stage g r) r) o)) ≡ true → change_row_in rows m ≡ change_row_in all m
+    by_row m None e here = absurd (false≢true here)
+    by_row m (Some r) e here = by_number (r.change.number == n) here
+      where
+        by_number : (t : Bool) → is_some (approval_of_row (cond t (at_stage g r) r)) ≡ true → change_row_in rows m ≡ change_row_in all m
+        by_number true here = absurd (false≢true here)
+        by_number false here = held.ready m (ap (λ p. is_some (option_and_then approval_of_row p)) e ∙ here)
 
 -- all rows of changes after a list of edits
 abbrev pub fold_changes : List ChangeRow → List Edit → List ChangeRow
 fold_changes all edits = fold edited_changes all edits
 
+held_with_edit : (rows all : List ChangeRow) (e : Edit) → AreRowsOf rows all → AreRowsOf (edited_rows rows e) (edited_changes all e)
+held_with_edit rows all (edit.PutChange k a) held = held_with_row rows all (record { change = k; approval = a }) held
+held_with_edit rows all (edit.SetStage n g) held = held_with_stage rows all n g held
+held_with_edit rows all _ held = held
+
 -- the rows that are held after edits are of those that all then are
-pub held_after : (edits : List Edit) (rows all : List ChangeRow) → AreRowsOf rows all → AreRowsOf (with_rows rows (rows_put edits)) (fold_changes all edits)
-held_after edits rows all held = subst (AreRowsOf (with_rows rows (rows_put edits))) (sym (edits_put edits all)) (held_with_rows (rows_put edits) rows all held)
+held_after : (edits : List Edit) (rows all : List ChangeRow) → AreRowsOf rows all → AreRowsOf (fold_rows rows edits) (fold_changes all edits)
+held_after [] rows all held = held
+held_after (e ∷ es) rows all held = held_after es (edited_rows rows e) (edited_changes all e) (held_with_edit rows all e held)
+
+-- edits of changes alone make the same of what is held
+rows_of_copies : (edits : List Edit) (rows : List ChangeRow) → fold_rows rows (filter is_of_changes edits) ≡ fold_rows rows edits
+rows_of_copies [] rows = refl
+rows_of_copies (edit.PutChange k a ∷ es) rows = rows_of_copies es (edited_rows rows (edit.PutChange k a))
+rows_of_copies (edit.SetStage n g ∷ es) rows = rows_of_copies es (edited_rows rows (edit.SetStage n g))
+rows_of_copies (_ ∷ es) rows = rows_of_copies es rows
 
 -- ---- what is let go
 
 pub held_without : (rows all : List ChangeRow) (n : ℕ) → AreRowsOf rows all → AreRowsOf (without_change rows n) all
 held_without rows all n held = by_approval (is_some (approval_in rows n)) refl
   where
-    own : (m : ℕ) (t : Bool) → n == m ≡ t → has_row (without number_of_change n rows) m ≡ true → row_of (without number_of_change n rows) m ≡ row_of all m
+    own : (m : ℕ) (t : Bool) → n == m ≡ t → has_row (without number_of_change n rows) m ≡ true → change_row_in (without number_of_change n rows) m ≡ change_row_in all m
     own m true e here = absurd (false≢true (sym (ap is_some (without_same n m rows e)) ∙ here))
     own m false e here = without_other n m rows e ∙ held.own m (sym (ap is_some (without_other n m rows e)) ∙ here)
 
-    ready : is_some (approval_in rows n) ≡ false → (m : ℕ) (t : Bool) → n == m ≡ t → is_some (approval_in all m) ≡ true → row_of (without number_of_change n rows) m ≡ row_of all m
+    ready : is_some (approval_in rows n) ≡ false → (m : ℕ) (t : Bool) → n == m ≡ t → is_some (approval_in all m) ≡ true → change_row_in (without number_of_change n rows) m ≡ change_row_in all m
     ready none m true e here = absurd (false≢true (sym none ∙ ap is_some (approval_held rows all n held) ∙ ap (λ k. is_some (approval_in all k)) (eqb-true n m e) ∙ here))
     ready none m false e here = without_other n m rows e ∙ held.ready m here
 
@@ -109,7 +138,9 @@ held_still queues (e ∷ es) rows all held = held_still queues es (without_left 
 
 -- the rows that are held after edits, those that they left let go, are of those that all then are
 pub held_edited : (queues : List LiveQueue) (edits : List Edit) (rows all : List ChangeRow) → AreRowsOf rows all → AreRowsOf (rows_edited queues edits rows) (fold_changes all edits)
-held_edited queues edits rows all held = held_still queues edits (with_rows rows (rows_put edits)) (fold_changes all edits) (held_after edits rows all held)
+held_edited queues edits rows all held =
+    held_still queues edits (fold_rows rows (filter is_of_changes edits)) (fold_changes all edits)
+    (subst (λ rs. AreRowsOf rs (fold_changes all edits)) (sym (rows_of_copies edits rows)) (held_after edits rows all held))
 
 pub any_edited : (queues : List LiveQueue) (edits : List Edit) (old : Option (List ChangeRow)) (all : List ChangeRow) → AnyAreHeldOf old all →
     AnyAreHeldOf (option_map (rows_edited queues edits) old) (fold_changes all edits)
@@ -120,9 +151,9 @@ any_edited queues edits (Some rows) all held = held_edited queues edits rows all
 
 -- a change that is known by a number has it
 pub number_is : (all : List ChangeRow) (n : ℕ) (k : Change) → Some k ≡ change_in all n → k.number ≡ n
-number_is all n k known = by_row (row_of all n) refl known
+number_is all n k known = by_row (change_row_in all n) refl known
   where
-    by_row : (o : Option ChangeRow) → row_of all n ≡ o → Some k ≡ option_map (λ (r : ChangeRow). r.change) o → k.number ≡ n
+    by_row : (o : Option ChangeRow) → change_row_in all n ≡ o → Some k ≡ option_map (λ (r : ChangeRow). r.change) o → k.number ≡ n
     by_row None e known = absurd (true≢false (ap is_some known))
     by_row (Some r) e known =
         let change : k ≡ r.change = cc in
@@ -140,10 +171,10 @@ held_more rows all n k held none known number = record {
     r = record { change = k; approval = None }
 
     -- its row among all isn't ready
-    row_is : row_of all n ≡ Some r
-    row_is = by_row (row_of all n) refl (approval_in all n) refl
+    row_is : change_row_in all n ≡ Some r
+    row_is = by_row (change_row_in all n) refl (approval_in all n) refl
       where
-        by_row : (o : Option ChangeRow) → row_of all n ≡ o → (a : Option ℕ) → approval_in all n ≡ a → row_of all n ≡ Some r
+        by_row : (o : Option ChangeRow) → change_row_in all n ≡ o → (a : Option ℕ) → approval_in all n ≡ a → change_row_in all n ≡ Some r
         by_row None e a f = absurd (false≢true (ap is_some (sym (ap (option_map (λ (j : ChangeRow). j.change)) e) ∙ known)))
         by_row (Some j) e (Some a) f = absurd (false≢true (sym none ∙ ap is_some (held.ready n (ap is_some f) ∙ e)))
         by_row (Some j) e None f =
@@ -151,12 +182,12 @@ held_more rows all n k held none known number = record {
             let approval : j.approval ≡ None = sym (ap (option_and_then approval_of_row) e) ∙ f in
             e ∙ λ i. Some (record { change = change i; approval = approval i })
 
-    own : (m : ℕ) (t : Bool) → k.number == m ≡ t → has_row (put_row rows r) m ≡ true → row_of (put_row rows r) m ≡ row_of all m
-    own m true e here = put_found r rows m e ∙ sym row_is ∙ ap (row_of all) (sym number ∙ eqb-true k.number m e)
+    own : (m : ℕ) (t : Bool) → k.number == m ≡ t → has_row (put_row rows r) m ≡ true → change_row_in (put_row rows r) m ≡ change_row_in all m
+    own m true e here = put_found r rows m e ∙ sym row_is ∙ ap (change_row_in all) (sym number ∙ eqb-true k.number m e)
     own m false e here = put_other r rows m e ∙ held.own m (sym (ap is_some (put_other r rows m e)) ∙ here)
 
-    ready : (m : ℕ) (t : Bool) → k.number == m ≡ t → is_some (approval_in all m) ≡ true → row_of (put_row rows r) m ≡ row_of all m
-    ready m true e here = put_found r rows m e ∙ sym row_is ∙ ap (row_of all) (sym number ∙ eqb-true k.number m e)
+    ready : (m : ℕ) (t : Bool) → k.number == m ≡ t → is_some (approval_in all m) ≡ true → change_row_in (put_row rows r) m ≡ change_row_in all m
+    ready m true e here = put_found r rows m e ∙ sym row_is ∙ ap (change_row_in all) (sym number ∙ eqb-true k.number m e)
     ready m false e here = put_other r rows m e ∙ held.ready m here
 
 -- and whatever came of the wish to hold it
@@ -168,17 +199,6 @@ held_read old new all n k (Ok done) put same none known held =
     subst (λ rows. AreRowsOf rows all) (sym put) (held_more old all n k held none (sym known) (number_is all n k known))
 
 -- ---- room
-
--- the rows that edits put are no more than they, and have their needs
-pub rows_fewer : (edits : List Edit) → length (rows_put edits) ≤ length edits
-rows_fewer [] = omega arith
-rows_fewer (edit.PutChange k a ∷ es) = let rest = rows_fewer es in omega (arith, rest)
-rows_fewer (_ ∷ es) = let rest = rows_fewer es in omega (arith, rest)
-
-pub needs_same : (edits : List Edit) → needs_of_rows (rows_put edits) ≡ needs_of_all edits
-needs_same [] = refl
-needs_same (edit.PutChange k a ∷ es) = ap (λ n. length k.needs + n) (needs_same es)
-needs_same (_ ∷ es) = let rest = needs_same es in omega (arith, rest)
 
 -- room for more is room for one
 pub room_one : (n m k : ℕ) (t : ChangeTable) → HasRoom (suc n) (m + k) t → HasRoom 1 m t

@@ -19,7 +19,8 @@ use Rattle.gate_memory.specs.Builds.{number_of, is_live_of, is_of}
 use Rattle.gate_memory.specs.TableReads.{builds_of_rows}
 use Rattle.gate_memory.proofs.SortedLemmas.{rises-put, rises-changed}
 use Rattle.gate_memory.proofs.TableLemmas.{find_put}
-use Rattle.gate_live.specs.HeldBuilds.{KnownBuilds, AreBuildsOf, edited_held, is_live_known, knows, put_all, serial_of}
+use Rattle.gate_live.specs.HeldBuilds.{KnownBuilds, AreBuildsOf, edited_held, forgotten, is_live_known, knows, put_all}
+use Rattle.gate_live.specs.HeldBuilds.{serial_of}
 use Rattle.gate_live.specs.declared.held_builds.Known.{Known}
 use Rattle.gate_live.proofs.CommuteLemmas.{filter_same, filter_put, filter_changed, filter_stopped, find_without}
 use Rattle.gate_live.proofs.CommuteLemmas.{puts_passing}
@@ -71,6 +72,12 @@ dropped known s b = by_tests b.live (knows known b.serial) (b.serial == s) ∙ s
     by_tests true false true = refl
     by_tests true false false = refl
 
+-- what is held without them
+builds_forgotten : (h : KnownBuilds) (all : List Build) (s : ℕ) → AreBuildsOf h all → AreBuildsOf (forgotten h s) all
+builds_forgotten h all s held =
+    ap (filter (λ (b : Build). not (is_of s b))) held ∙ filter_twice (is_live_known h.known) (λ (b : Build). not (is_of s b)) all
+    ∙ filter_same (λ (b : Build). is_live_known h.known b && not (is_of s b)) (is_live_known (without serial_of s h.known)) all (dropped h.known s)
+
 -- what is held after an edit is what is to be held of all builds then
 pub builds_edited : (h : KnownBuilds) (all : List Build) (e : Edit) → RisesFrom number_of 0 all → AreBuildsOf h all → AreBuildsOf (edited_held h e) (edited_build_rows all e)
 builds_edited h all (edit.PutBuild b) rise held =
@@ -79,9 +86,8 @@ builds_edited h all (edit.SetOutcome n o) rise held =
     ap (change_build n (with_outcome o)) held ∙ sym (filter_changed number_of (is_live_known h.known) n (with_outcome o) all (λ b. refl))
 builds_edited h all (edit.StopBuild n) rise held =
     ap (without number_of n) held ∙ sym (filter_stopped number_of (is_live_known h.known) n (with_live false) all (λ b. refl))
-builds_edited h all (edit.DropItem s) rise held =
-    ap (filter (λ (b : Build). not (is_of s b))) held ∙ filter_twice (is_live_known h.known) (λ (b : Build). not (is_of s b)) all
-    ∙ filter_same (λ (b : Build). is_live_known h.known b && not (is_of s b)) (is_live_known (without serial_of s h.known)) all (dropped h.known s)
+builds_edited h all (edit.DropItem s) rise held = builds_forgotten h all s held
+builds_edited h all (edit.LandItem s) rise held = builds_forgotten h all s held
 builds_edited h all _ rise held = held
 
 -- and all still rise by number

@@ -1,7 +1,7 @@
 -- The plans that are held: what edits make of them, and what is read of them.
 use Rattle.std.proofs.Common.{◌≡◌, ◌≢◌, ℕ, Bool, true, false, not, cond, Option, Some, None, List, [], ◌∷◌, ◌++◌}
 use Rattle.std.proofs.Common.{refl, sym, ap, subst, ◌∙◌, ⊎_elim, arith, true≢false}
-use Rattle.std.specs.Prelude.{◌==◌, find, is_some, option_to_list, IfSome}
+use Rattle.std.specs.Prelude.{◌==◌, find, is_some, option_map, option_to_list, IfSome}
 use Rattle.std.specs.List.{AllByRecursion}
 use Rattle.std.proofs.lemmas.Bool.{eq-eqb, ne_eqb}
 use Rattle.gate_types.specs.declared.edits.Edit.{Edit}
@@ -9,9 +9,10 @@ use Rattle.gate_types.specs.declared.edits.Edit.TheVariants as edit
 use Rattle.gate_types.specs.declared.records.Item.{Item}
 use Rattle.gate_types.specs.declared.records.Plan.{Plan}
 use Rattle.gate_types.specs.State.{put_by}
-use Rattle.gate_types.specs.Tables.{edited_plans}
+use Rattle.gate_types.specs.Tables.{edited_plans, unmark, unmarked}
 use Rattle.gate_types.specs.Keys.{serial_of_plan}
 use Rattle.gate_types.specs.Rising.{RisesFrom}
+use Rattle.gate_types.proofs.ChangedLemmas.{found_changed}
 use Rattle.gate_book_trait.specs.RowReads.{plans_of_rows}
 use Rattle.gate_book_trait.proofs.Finding.{all_found, all_in, found_has}
 use Rattle.gate_memory.specs.Sorted.{without}
@@ -44,6 +45,12 @@ put_other all p z ne is = find_put serial_of_plan z.serial p all ∙ ap (λ t. c
 gone_other : (all : List Plan) (s : ℕ) (z : Plan) → z.serial ≢ s → IsPlanOf all z → IsPlanOf (without serial_of_plan s all) z
 gone_other all s z ne is = find_without serial_of_plan s z.serial all ∙ ap (λ t. cond t None (plan_in all z.serial)) (ne_eqb s z.serial (λ e. ne (sym e))) ∙ is
 
+-- one of another serial than that which lands
+landed_other : (all : List Plan) (s : ℕ) (z : Plan) → z.serial ≢ s → IsPlanOf all z → IsPlanOf (unmark s all) z
+landed_other all s z ne is =
+    found_changed serial_of_plan s unmarked (λ p. refl) z.serial all ∙ ap (option_map (λ (p : Plan). cond (p.serial == s) (unmarked p) p)) is
+    ∙ ap (λ t. Some (cond t (unmarked z) z)) (ne_eqb z.serial s ne)
+
 -- what is left without a serial
 left : (rows all after : List Plan) (s : ℕ) → ((z : Plan) → z.serial ≢ s → IsPlanOf all z → IsPlanOf after z) → ArePlansOf rows all → ArePlansOf (without serial_of_plan s rows) after
 left rows all after s still held = all_from (IsPlanOf after) (without serial_of_plan s rows) (λ z there.
@@ -65,6 +72,7 @@ plans_edited is_item rows all (edit.PutPlan p) rise held = by_item (is_item p.se
     by_item true = put_both rows all p rise held
     by_item false = left rows all (put_by serial_of_plan p all) p.serial (put_other all p) held
 plans_edited is_item rows all (edit.DropItem s) rise held = left rows all (without serial_of_plan s all) s (gone_other all s) held
+plans_edited is_item rows all (edit.LandItem s) rise held = left rows all (unmark s all) s (landed_other all s) held
 plans_edited is_item rows all _ rise held = held
 
 -- and they still rise by serial
@@ -75,6 +83,7 @@ plans_still_rise is_item rows (edit.PutPlan p) rise = by_item (is_item p.serial)
     by_item true = rises-put serial_of_plan 0 p rows (omega arith) rise
     by_item false = rises-without serial_of_plan p.serial 0 rows rise
 plans_still_rise is_item rows (edit.DropItem s) rise = rises-without serial_of_plan s 0 rows rise
+plans_still_rise is_item rows (edit.LandItem s) rise = rises-without serial_of_plan s 0 rows rise
 plans_still_rise is_item rows _ rise = rise
 
 -- ---- what was read

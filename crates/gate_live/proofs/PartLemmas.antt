@@ -50,6 +50,7 @@ builds_after : (edits : List Edit) (h : KnownBuilds) (all : List Build) → Rise
     AreBuildsOf (fold_held h (filter is_of_items edits)) (fold edited_build_rows all edits)
 builds_after [] h all rise held = held
 builds_after (edit.DropItem s ∷ es) h all rise held = builds_after es (edited_held h (edit.DropItem s)) all rise (builds_edited h all (edit.DropItem s) rise held)
+builds_after (edit.LandItem s ∷ es) h all rise held = builds_after es (edited_held h (edit.LandItem s)) all rise (builds_edited h all (edit.LandItem s) rise held)
 builds_after (edit.PutBuild b ∷ es) h all rise held =
     builds_after es (edited_held h (edit.PutBuild b)) (edited_build_rows all (edit.PutBuild b)) (builds_still_rise all (edit.PutBuild b) rise) (builds_edited h all (edit.PutBuild b) rise held)
 builds_after (edit.SetOutcome n o ∷ es) h all rise held =
@@ -64,6 +65,8 @@ plans_after : (is_item : ℕ → Bool) (edits : List Edit) (rows all : List Plan
 plans_after is_item [] rows all rise held = held
 plans_after is_item (edit.DropItem s ∷ es) rows all rise held =
     plans_after is_item es (edited_held_plans is_item rows (edit.DropItem s)) (edited_plans all (edit.DropItem s)) (plans_still_rise is_item rows (edit.DropItem s) rise) (plans_edited is_item rows all (edit.DropItem s) rise held)
+plans_after is_item (edit.LandItem s ∷ es) rows all rise held =
+    plans_after is_item es (edited_held_plans is_item rows (edit.LandItem s)) (edited_plans all (edit.LandItem s)) (plans_still_rise is_item rows (edit.LandItem s) rise) (plans_edited is_item rows all (edit.LandItem s) rise held)
 plans_after is_item (edit.PutPlan p ∷ es) rows all rise held =
     plans_after is_item es (edited_held_plans is_item rows (edit.PutPlan p)) (edited_plans all (edit.PutPlan p)) (plans_still_rise is_item rows (edit.PutPlan p) rise) (plans_edited is_item rows all (edit.PutPlan p) rise held)
 plans_after is_item (_ ∷ es) rows all rise held = plans_after is_item es rows all rise held

@@ -39,15 +39,20 @@ AreBuildsOf h all = h.rows ≡ filter (is_live_known h.known) all
 abbrev pub put_held : KnownBuilds → Build → List Build
 put_held h b = if is_live_known h.known b then put_by number_of b h.rows else without number_of b.number h.rows
 
+-- the known builds without those of an item, which is known no longer
+abbrev pub forgotten : KnownBuilds → ℕ → KnownBuilds
+forgotten h s = record {
+  rows = filter (λ b. not (is_of s b)) h.rows;
+  known = without serial_of s h.known;
+}
+
 -- the known builds after an edit
 abbrev pub edited_held : KnownBuilds → Edit → KnownBuilds
 edited_held h (edit.PutBuild b) = record h { rows = put_held h b }
 edited_held h (edit.SetOutcome n o) = record h { rows = change_build n (with_outcome o) h.rows }
 edited_held h (edit.StopBuild n) = record h { rows = without number_of n h.rows }
-edited_held h (edit.DropItem s) = record {
-  rows = filter (λ b. not (is_of s b)) h.rows;
-  known = without serial_of s h.known;
-}
+edited_held h (edit.DropItem s) = forgotten h s
+edited_held h (edit.LandItem s) = forgotten h s
 edited_held h _ = h
 
 -- the known builds after a list of edits

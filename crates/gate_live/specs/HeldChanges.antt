@@ -2,18 +2,17 @@
 use Rattle.std.specs.Prelude.{
   ℕ,
   Bool,
+  true,
+  false,
   ◌≡◌,
   ◌||◌,
-  ◌+◌,
   ◌==◌,
   if◌then◌else◌,
   List,
   [],
-  ◌∷◌,
   nat_lt,
   filter,
   find,
-  length,
   fold,
   Option,
   Some,
@@ -22,7 +21,7 @@ use Rattle.std.specs.Prelude.{
   IfSome,
   IsSome,
 }
-use Rattle.std.specs.List.{list_all, filter_map}
+use Rattle.std.specs.List.{list_all}
 use Rattle.std.specs.Option.{option_map_or}
 use Rattle.gate_types.specs.declared.edits.Edit.{Edit}
 use Rattle.gate_types.specs.declared.edits.Edit.TheVariants as edit
@@ -32,9 +31,9 @@ use Rattle.gate_types.specs.declared.rows.ChangeRow.{ChangeRow}
 use Rattle.gate_types.specs.State.{put_by}
 use Rattle.gate_types.specs.Settings.{Settings}
 use Rattle.gate_types.specs.Once.{Content}
-use Rattle.gate_types.specs.Tables.{tables}
+use Rattle.gate_types.specs.Tables.{at_stage, change_known, tables}
 use Rattle.gate_types.specs.Keys.{number_of_change}
-use Rattle.gate_book_trait.specs.RowReads.{row_of, approval_in}
+use Rattle.gate_book_trait.specs.RowReads.{change_row_in, approval_in}
 use Rattle.gate_memory.specs.Sorted.{without}
 use Rattle.gate_memory.specs.Changes as change_table
 use Rattle.gate_memory.specs.HeldQueues.{LiveQueue, live_queued}
@@ -44,8 +43,8 @@ use Rattle.gate_live.specs.declared.held_changes.HeldChanges.{HeldChanges}
 
 -- each held row equals the row of its change among all rows, and the rows of all ready changes are held
 pub record AreRowsOf (rows all : List ChangeRow) : Type 0 where
-  pub own : (n : ℕ) → IsSome (row_of rows n) → row_of rows n ≡ row_of all n
-  pub ready : (n : ℕ) → IsSome (approval_in all n) → row_of rows n ≡ row_of all n
+  pub own : (n : ℕ) → IsSome (change_row_in rows n) → change_row_in rows n ≡ change_row_in all n
+  pub ready : (n : ℕ) → IsSome (approval_in all n) → change_row_in rows n ≡ change_row_in all n
 
 -- the rows, if changes are held, are some of all rows, with all ready ones
 abbrev pub AnyAreHeldOf : Option (List ChangeRow) → List ChangeRow → Type 0
@@ -57,7 +56,7 @@ AreChangesOf rows c x = AnyAreHeldOf rows (tables c x).changes
 
 -- whether the row of a change is among these rows
 abbrev pub has_row : List ChangeRow → ℕ → Bool
-has_row rows n = is_some (row_of rows n)
+has_row rows n = is_some (change_row_in rows n)
 
 -- whether the rows of all these items' changes are among these rows
 abbrev pub has_rows_of : List ChangeRow → List Item → Bool
@@ -73,23 +72,21 @@ items_above above items = filter (λ i. nat_lt above i.serial) items
 abbrev pub with_row : List ChangeRow → ChangeRow → List ChangeRow
 with_row rows r = if is_some r.approval || has_row rows r.change.number then put_by number_of_change r rows else rows
 
--- the held rows after other rows are put one after another
-abbrev pub with_rows : List ChangeRow → List ChangeRow → List ChangeRow
-with_rows rows rs = fold with_row rows rs
+-- whether an edit concerns changes
+abbrev pub is_of_changes : Edit → Bool
+is_of_changes (edit.PutChange k approval) = true
+is_of_changes (edit.SetStage n stage) = true
+is_of_changes _ = false
 
--- the row of a change that an edit puts, if any
-abbrev pub row_put : Edit → Option ChangeRow
-row_put (edit.PutChange k approval) = Some (record { change = k; approval = approval })
-row_put _ = None
+-- the held rows after an edit
+abbrev pub edited_rows : List ChangeRow → Edit → List ChangeRow
+edited_rows rows (edit.PutChange k approval) = with_row rows (record { change = k; approval = approval })
+edited_rows rows (edit.SetStage n stage) = change_known n (at_stage stage) rows
+edited_rows rows _ = rows
 
--- the rows of changes that a list of edits puts, in the order of the edits
-abbrev pub rows_put : List Edit → List ChangeRow
-rows_put edits = filter_map row_put edits
-
--- the total number of needs of these rows
-abbrev pub needs_of_rows : List ChangeRow → ℕ
-needs_of_rows [] = 0
-needs_of_rows (r ∷ rs) = length r.change.needs + needs_of_rows rs
+-- the held rows after a list of edits
+abbrev pub fold_rows : List ChangeRow → List Edit → List ChangeRow
+fold_rows rows edits = fold edited_rows rows edits
 
 -- the row of a change that isn't ready
 abbrev pub unready : Change → ChangeRow
@@ -101,9 +98,10 @@ unready k = record { change = k; approval = None }
 abbrev pub without_change : List ChangeRow → ℕ → List ChangeRow
 without_change rows n = if is_some (approval_in rows n) then rows else without number_of_change n rows
 
--- the change that may have no item after an edit: the one that the edit puts or reports, if any
+-- the change that may have no item after an edit: the one that the edit puts, sets or reports, if any
 abbrev pub change_touched : Edit → Option ℕ
 change_touched (edit.PutChange k approval) = Some k.number
+change_touched (edit.SetStage n stage) = Some n
 change_touched (edit.PutReport queue place r) = Some r.change
 change_touched _ = None
 
@@ -116,9 +114,10 @@ abbrev pub without_left : List LiveQueue → List ChangeRow → Edit → List Ch
 without_left queues rows e =
     option_map_or (λ n. if is_queued_in queues n then rows else without_change rows n) (change_touched e) rows
 
--- the held rows after edits that led to these queues: rows are put, then those neither ready nor queued are dropped
+-- the held rows after edits that led to these queues: those of changes are made, then rows neither ready nor queued are
+-- dropped
 abbrev pub rows_edited : List LiveQueue → List Edit → List ChangeRow → List ChangeRow
-rows_edited queues edits rows = fold (without_left queues) (with_rows rows (rows_put edits)) edits
+rows_edited queues edits rows = fold (without_left queues) (fold_rows rows (filter is_of_changes edits)) edits
 
 -- ---- how changes are held
 

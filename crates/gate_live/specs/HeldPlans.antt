@@ -25,6 +25,7 @@ put_held is_item rows p =
 abbrev pub edited_held_plans : (ℕ → Bool) → List Plan → Edit → List Plan
 edited_held_plans is_item rows (edit.PutPlan p) = put_held is_item rows p
 edited_held_plans is_item rows (edit.DropItem s) = without serial_of_plan s rows
+edited_held_plans is_item rows (edit.LandItem s) = without serial_of_plan s rows
 edited_held_plans is_item rows _ = rows
 
 -- the held plans after a list of edits

@@ -46,6 +46,7 @@ pub record Agrees (p : Parts) (c : Settings) (x : Content) : Type 0 where
 -- whether an edit concerns builds or plans
 abbrev pub is_of_items : Edit → Bool
 is_of_items (edit.DropItem s) = true
+is_of_items (edit.LandItem s) = true
 is_of_items (edit.PutPlan p) = true
 is_of_items (edit.PutBuild b) = true
 is_of_items (edit.SetOutcome n o) = true

@@ -29,8 +29,8 @@ pub(crate) fn is_queued(queues: &[HeldQueue], change: ChangeNo) -> bool
     false
 }
 
-/// Drops the row of the change that an edit puts, or whose item an edit reports as left, unless the change is ready or
-/// an item of these queues has it.
+/// Drops the row of the change that an edit puts or sets, or whose item an edit reports as left, unless the change is
+/// ready or an item of these queues has it.
 fn forget_touched(held: &mut HeldChanges, queues: &[HeldQueue], edit: &Edit)
     requires queues { AllByRecursion IsKeptQueue queues.now }
     requires kept { AreKeptChanges held.old }

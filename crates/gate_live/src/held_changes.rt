@@ -1,17 +1,17 @@
 //! The changes held in memory: all ready changes, and the changes of queued items once they have been read.
-ghost use Rattle.std.specs.Prelude.{◌≡◌, ◌++◌, ◌||◌, ℕ, List, suc, [], ◌+◌, length, is_some, Some, IfOk, IfSome, OnErr};
-ghost use Rattle.std.specs.Prelude.{OnOk};
-ghost use Rattle.std.specs.List.{cons_option};
+ghost use Rattle.std.specs.Prelude.{◌≡◌, ◌++◌, ◌||◌, ℕ, List, suc, [], ◌∷◌, ◌+◌, filter, length, is_some, Some, IfOk};
+ghost use Rattle.std.specs.Prelude.{IfSome, OnErr, OnOk};
 ghost use Rattle.gate_types.specs.State.{put_by};
 ghost use Rattle.gate_types.specs.Keys.{number_of_change};
 ghost use Rattle.gate_types.specs.declared.rows.ChangeRow.{ChangeRow};
 ghost use Rattle.gate_book_trait.specs.RowReads.{approval_in, change_in, needing_in};
 ghost use Rattle.gate_memory.specs.Changes.{IsWhatRowsTell};
+ghost use Rattle.gate_memory.specs.Needs.{needs_of, needs_of_all};
 ghost use Rattle.gate_memory.specs.Queues as queue_table;
 ghost use Rattle.gate_memory.specs.TableReads.{IsWhatRowsTellOf};
 ghost use Rattle.gate_live.specs.HeldChanges.{AreRowsOf, AreKeptChanges, HasRoomFor, change_touched, changes_held};
-ghost use Rattle.gate_live.specs.HeldChanges.{has_row, has_rows_of, items_above, needs_of_rows, row_put, rows_put};
-ghost use Rattle.gate_live.specs.HeldChanges.{unready, with_row, with_rows, without_change};
+ghost use Rattle.gate_live.specs.HeldChanges.{edited_rows, fold_rows, has_row, has_rows_of, is_of_changes, items_above};
+ghost use Rattle.gate_live.specs.HeldChanges.{unready, with_row, without_change};
 
 use gate_memory::{ChangeTable, QueueTable, count_needs, needing_of};
 use gate_types::edits::Edit;
@@ -29,46 +29,45 @@ pub struct HeldChanges {
     table: ChangeTable,
 }
 
-/// Copies the row of a change that an edit puts. `None` if the edit puts none. Fails if memory is refused.
-fn row_put(edit: &Edit) -> Result<Option<ChangeRow>, NoMemory>
-    ensures { IfOk result (λ row. row ≡ row_put edit.now) }
+/// Whether an edit concerns changes.
+fn is_of_changes(edit: &Edit) -> bool
+    ensures { result ≡ is_of_changes edit.now }
 {
     match edit {
-        Edit::PutChange { change, approval } => Ok(Some(ChangeRow {
-            change: change.copy()?,
-            approval: *approval,
-        })),
-        _ => Ok(None),
+        Edit::PutChange { .. } | Edit::SetStage { .. } => true,
+        _ => false,
     }
 }
 
-fn push_row(rows: &mut Vec<ChangeRow>, row: Option<ChangeRow>) -> Result<(), NoMemory>
-    ensures { OnOk result (rows.new.items ≡ rows.old.items ++ cons_option row []) }
+/// Appends a copy of an edit, if the edit concerns changes. Fails if memory is refused.
+fn push_copy(copies: &mut Vec<Edit>, edit: &Edit) -> Result<(), NoMemory>
+    ensures { OnOk result (copies.new.items ≡ copies.old.items ++ filter is_of_changes (edit.now ∷ [])) }
 {
-    if let Some(row) = row {
-        rows.reserve(1)?;
-        rows.push_reserved(row);
+    if !is_of_changes(edit) {
+        return Ok(());
     }
+    copies.push(edit.copy()?)?;
     Ok(())
 }
 
-/// Copies the rows of changes that edits put, in the order of the edits. Fails if memory is refused.
-pub(crate) fn rows_put(alloc: Global, edits: &[Edit]) -> Result<Vec<ChangeRow>, NoMemory>
-    ensures { IfOk result (λ rows. rows.items ≡ rows_put edits.now) }
+/// Copies the edits that concern changes. Fails if memory is refused.
+pub(crate) fn change_copies(alloc: Global, edits: &[Edit]) -> Result<Vec<Edit>, NoMemory>
+    ensures { IfOk result (λ copies. copies.items ≡ filter is_of_changes edits.now) }
 {
-    let mut rows = Vec::new(alloc);
+    let mut copies = Vec::new(alloc);
     for edit in edits {
-        push_row(&mut rows, row_put(edit)?)?;
+        push_copy(&mut copies, edit)?;
     }
-    Ok(rows)
+    Ok(copies)
 }
 
-/// The change that may have no item after an edit: the one that the edit puts or reports, if any.
+/// The change that may have no item after an edit: the one that the edit puts, sets or reports, if any.
 pub(crate) fn change_touched(edit: &Edit) -> Option<ChangeNo>
     ensures { result ≡ change_touched edit.now }
 {
     match edit {
         Edit::PutChange { change, .. } => Some(change.number),
+        Edit::SetStage { change, .. } => Some(*change),
         Edit::PutReport { report, .. } => Some(report.change),
         _ => None,
     }
@@ -85,14 +84,13 @@ impl HeldChanges {
         }
     }
 
-    /// Allocates room for the rows that these edits put. Fails if memory is refused or the number of their needs is too
-    /// large to count. Either way, the held rows stay unchanged.
+    /// Allocates room for these edits. Fails if memory is refused or the number of the needs that they put is too large
+    /// to count. Either way, the held rows stay unchanged.
     pub(crate) fn make_room(&mut self, edits: &[Edit]) -> Result<(), NoMemory>
         requires { AreKeptChanges self.old }
         ensures rows { changes_held self.new ≡ changes_held self.old }
         ensures kept { AreKeptChanges self.new }
-        ensures room { OnOk result
-            (HasRoomFor (length (rows_put edits.now)) (needs_of_rows (rows_put edits.now)) self.new) }
+        ensures room { OnOk result (HasRoomFor (length edits.now) (needs_of_all edits.now) self.new) }
     {
         let Some(needs) = count_needs(edits) else {
             return Err(AllocError);
@@ -139,15 +137,31 @@ impl HeldChanges {
         }
     }
 
-    /// Puts each row whose change is ready or already held. There must be room for all rows and their needs.
-    pub(crate) fn put_all(&mut self, rows: Vec<ChangeRow>)
+    /// Applies an edit: puts a row, or sets the stage of a change that is held. There must be room for one row and its
+    /// needs.
+    fn apply(&mut self, edit: Edit)
         requires kept { AreKeptChanges self.old }
-        requires room { HasRoomFor (length rows.items) (needs_of_rows rows.items) self.old }
-        ensures rows { changes_held self.new ≡ with_rows (changes_held self.old) rows.items }
+        requires room { HasRoomFor 1 (needs_of edit) self.old }
+        ensures rows { changes_held self.new ≡ edited_rows (changes_held self.old) edit }
+        ensures kept { AreKeptChanges self.new }
+        ensures room { (n m : ℕ) → HasRoomFor (suc n) (needs_of edit + m) self.old → HasRoomFor n m self.new }
+    {
+        match edit {
+            Edit::PutChange { change, approval } => self.put(ChangeRow { change, approval }),
+            Edit::SetStage { change, stage } => self.table.set_stage(change, stage),
+            _ => {}
+        }
+    }
+
+    /// Applies all edits. There must be room for a row per edit, and for the needs of those that put one.
+    pub(crate) fn apply_all(&mut self, edits: Vec<Edit>)
+        requires kept { AreKeptChanges self.old }
+        requires room { HasRoomFor (length edits.items) (needs_of_all edits.items) self.old }
+        ensures rows { changes_held self.new ≡ fold_rows (changes_held self.old) edits.items }
         ensures kept { AreKeptChanges self.new }
     {
-        for row in rows {
-            self.put(row);
+        for edit in edits {
+            self.apply(edit);
         }
     }
 

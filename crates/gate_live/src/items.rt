@@ -19,11 +19,13 @@ fn is_of_items(edit: &Edit) -> bool
 {
     match edit {
         Edit::DropItem(_)
+        | Edit::LandItem(_)
         | Edit::PutPlan(_)
         | Edit::PutBuild(_)
         | Edit::SetOutcome { .. }
         | Edit::StopBuild(_) => true,
         Edit::PutChange { .. }
+        | Edit::SetStage { .. }
         | Edit::PutItem { .. }
         | Edit::PutLanding { .. }
         | Edit::PutReport { .. }
@@ -87,7 +89,7 @@ fn apply(builds: &mut HeldBuilds, plans: &mut HeldPlans, held: &Option<Held>, ed
             let is_item = holds_item(held, plan.serial);
             plans.put(plan, is_item);
         }
-        Edit::DropItem(serial) => {
+        Edit::DropItem(serial) | Edit::LandItem(serial) => {
             plans.forget(serial);
             builds.forget(serial);
         }
@@ -95,6 +97,7 @@ fn apply(builds: &mut HeldBuilds, plans: &mut HeldPlans, held: &Option<Held>, ed
         Edit::SetOutcome { build, outcome } => builds.set_outcome(build, outcome),
         Edit::StopBuild(build) => builds.stop(build),
         Edit::PutChange { .. }
+        | Edit::SetStage { .. }
         | Edit::PutItem { .. }
         | Edit::PutLanding { .. }
         | Edit::PutReport { .. }

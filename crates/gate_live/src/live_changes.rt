@@ -1,10 +1,11 @@
 //! The held changes, if any are held: applies edits to them, holds changes that were read, and finds the items that
 //! need one.
-ghost use Rattle.std.specs.Prelude.{◌≡◌, ℕ, List, length, map, option_map, IfErr, IfOk, IfSome, OnOk};
+ghost use Rattle.std.specs.Prelude.{◌≡◌, ℕ, List, filter, length, map, option_map, IfErr, IfOk, IfSome, OnOk};
 ghost use Rattle.std.specs.List.{AllByRecursion};
 ghost use Rattle.gate_types.specs.Once.{Content};
 ghost use Rattle.gate_types.specs.Settings.{Settings};
 ghost use Rattle.gate_types.specs.declared.rows.ChangeRow.{ChangeRow};
+ghost use Rattle.gate_memory.specs.Needs.{needs_of_all};
 ghost use Rattle.gate_memory.specs.Queues as queue_table;
 ghost use Rattle.gate_book_trait.specs.Faults.{MayAnswer};
 ghost use Rattle.gate_book_trait.specs.Kept.{OfHeld, IsKept};
@@ -12,12 +13,12 @@ ghost use Rattle.gate_book_trait.specs.Reads as read;
 ghost use Rattle.gate_book_trait.specs.RowReads.{change_in};
 ghost use Rattle.gate_live.specs.Held.{AreKept, IsKeptQueue, IsLiveOf, live_of, queue_of};
 ghost use Rattle.gate_live.specs.HeldChanges.{AnyAreHeldOf, AreChangesOf, AreRowsOf, AreKeptChanges, HasRoomFor};
-ghost use Rattle.gate_live.specs.HeldChanges.{changes_held, rows_edited, needs_of_rows, queues_held, rows_put};
+ghost use Rattle.gate_live.specs.HeldChanges.{changes_held, is_of_changes, queues_held, rows_edited};
 
 use crate::change_reads::needing;
 use crate::forgetting::{forget_left, is_queued};
 use crate::held::Held;
-use crate::held_changes::{HeldChanges, rows_put};
+use crate::held_changes::{HeldChanges, change_copies};
 use crate::held_queue::HeldQueue;
 use gate_book_trait::{Book, BookFault};
 use gate_memory::QueueTable;
@@ -25,18 +26,16 @@ use gate_types::edits::Edit;
 use gate_types::names::{Name, NoMemory};
 use gate_types::numbers::ChangeNo;
 use gate_types::records::{Change, Item};
-use gate_types::rows::ChangeRow;
 use gate_types::sequence::Sequence;
 use std::alloc::Global;
 
-/// Allocates room for the rows that these edits put, if changes are held. Fails if memory is refused. Either way, the
-/// held rows stay unchanged.
+/// Allocates room for these edits, if changes are held. Fails if memory is refused. Either way, the held rows stay
+/// unchanged.
 fn make_room(changes: &mut Option<HeldChanges>, edits: &[Edit]) -> Result<(), NoMemory>
     requires { IfSome changes.old AreKeptChanges }
     ensures rows { option_map changes_held changes.new ≡ option_map changes_held changes.old }
     ensures kept { IfSome changes.new AreKeptChanges }
-    ensures room { OnOk result (IfSome changes.new
-        (HasRoomFor (length (rows_put edits.now)) (needs_of_rows (rows_put edits.now)))) }
+    ensures room { OnOk result (IfSome changes.new (HasRoomFor (length edits.now) (needs_of_all edits.now))) }
 {
     match changes {
         Some(changes) => changes.make_room(edits),
@@ -44,23 +43,23 @@ fn make_room(changes: &mut Option<HeldChanges>, edits: &[Edit]) -> Result<(), No
     }
 }
 
-/// Copies the rows that edits put, and allocates room for them if changes are held. Fails if memory is refused. Either
-/// way, the held rows stay unchanged.
+/// Copies the edits that concern changes, and allocates room for them if changes are held. Fails if memory is refused.
+/// Either way, the held rows stay unchanged.
 pub(crate) fn prepare(
     alloc: Global,
     changes: &mut Option<HeldChanges>,
     edits: &[Edit],
-) -> Result<Vec<ChangeRow>, NoMemory>
+) -> Result<Vec<Edit>, NoMemory>
     requires { IfSome changes.old AreKeptChanges }
-    ensures told { IfOk result (λ rows. rows.items ≡ rows_put edits.now) }
+    ensures told { IfOk result (λ copies. copies.items ≡ filter is_of_changes edits.now) }
     ensures rows { option_map changes_held changes.new ≡ option_map changes_held changes.old }
     ensures kept { IfSome changes.new AreKeptChanges }
-    ensures room { IfOk result (λ rows. IfSome changes.new
-        (HasRoomFor (length rows.items) (needs_of_rows rows.items))) }
+    ensures room { IfOk result (λ copies. IfSome changes.new
+        (HasRoomFor (length copies.items) (needs_of_all copies.items))) }
 {
-    let rows = rows_put(alloc, edits)?;
-    make_room(changes, edits)?;
-    Ok(rows)
+    let copies = change_copies(alloc, edits)?;
+    make_room(changes, copies.as_slice())?;
+    Ok(copies)
 }
 
 /// The held queues, or an empty slice if none are held.
@@ -75,24 +74,24 @@ fn queues_of(held: &Option<Held>) -> &[HeldQueue]
     }
 }
 
-/// Puts the rows of these edits among the held changes, then drops the changes that the edits left neither ready nor
-/// queued. There must be room for the rows and their needs.
+/// Applies these edits, of which `copies` has those of changes, to the held changes, then drops the changes that the
+/// edits left neither ready nor queued. There must be room for the copies and their needs.
 pub(crate) fn edit(
     changes: &mut Option<HeldChanges>,
     held: &Option<Held>,
-    rows: Vec<ChangeRow>,
+    copies: Vec<Edit>,
     edits: &[Edit],
 )
     requires held { IfSome held.now AreKept }
     requires kept { IfSome changes.old AreKeptChanges }
-    requires rows { rows.items ≡ rows_put edits.now }
-    requires room { IfSome changes.old (HasRoomFor (length rows.items) (needs_of_rows rows.items)) }
+    requires copies { copies.items ≡ filter is_of_changes edits.now }
+    requires room { IfSome changes.old (HasRoomFor (length copies.items) (needs_of_all copies.items)) }
     ensures rows { option_map changes_held changes.new
         ≡ option_map (rows_edited (queues_held held.now) edits.now) (option_map changes_held changes.old) }
     ensures kept { IfSome changes.new AreKeptChanges }
 {
     if let Some(changes) = changes {
-        changes.put_all(rows);
+        changes.apply_all(copies);
         forget_left(changes, queues_of(held), edits);
     }
 }

@@ -18,3 +18,4 @@ pub mod SwapLemmas
 pub mod DropLemmas
 pub mod MovedLemmas
 pub mod NeedChangeLemmas
+pub mod StageLemmas

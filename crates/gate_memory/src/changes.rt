@@ -9,6 +9,7 @@ ghost use Rattle.std.specs.HashMap.{get, spare};
 ghost use Rattle.gate_types.specs.State.{put_by};
 ghost use Rattle.gate_types.specs.Keys.{number_of_change};
 ghost use Rattle.gate_types.specs.Rising.{RisesFrom, In};
+ghost use Rattle.gate_types.specs.Tables.{at_stage, change_known};
 ghost use Rattle.gate_memory.specs.Sorted.{without};
 ghost use Rattle.gate_book_trait.specs.RowReads.{change_in, needs_in, approval_in};
 ghost use Rattle.gate_memory.specs.TableReads.{needing_by, IsWhatRowsTellOf};
@@ -24,7 +25,7 @@ use crate::sorted;
 use crate::sorted::Keyed;
 use gate_types::names::NoMemory;
 use gate_types::numbers::ChangeNo;
-use gate_types::records::{Change, Ready};
+use gate_types::records::{Change, Ready, Stage};
 use gate_types::rows::ChangeRow;
 use gate_types::sequence::Sequence;
 use std::alloc::{AllocError, Global};
@@ -95,6 +96,24 @@ fn put_row(rows: &mut Vec<ChangeRow>, positions: &mut HashMap<u64, usize>, row: 
             let _old = inserted.unwrap();
             rows.push_reserved(row);
         }
+    }
+}
+
+/// Sets the stage of a change, if it is there: it is ready no longer.
+fn set_row(rows: &mut Vec<ChangeRow>, positions: &HashMap<u64, usize>, number: u64, stage: Stage)
+    requires finds { FindsNumbers positions.now rows.old.items }
+    requires apart { AreApart number_of_change rows.old.items }
+    ensures rows { in_order number_of_change rows.new.items
+        ≡ change_known number (at_stage stage) (in_order number_of_change rows.old.items) }
+    ensures finds { FindsNumbers positions.now rows.new.items }
+    ensures apart { AreApart number_of_change rows.new.items }
+    ensures len { vec_len rows.new ≡ vec_len rows.old }
+    ensures capacity { vec_capacity rows.new ≡ vec_capacity rows.old }
+{
+    if let Some(position) = position_of(positions, number) {
+        let row = &mut rows[position];
+        row.change.stage = stage;
+        row.approval = None;
     }
 }
 
@@ -380,6 +399,22 @@ impl ChangeTable {
         );
         note_ready(&mut self.ready, approval, number);
         put_row(&mut self.rows, &mut self.positions, row);
+    }
+
+    /// Sets the stage of a change, if it is there: it is ready no longer.
+    pub fn set_stage(&mut self, number: ChangeNo, stage: Stage)
+        requires { IsKept self.old }
+        ensures rows { changes_of self.new ≡ change_known number (at_stage stage) (changes_of self.old) }
+        ensures kept { IsKept self.new }
+        ensures room { (n m : ℕ) → HasRoom n m self.old → HasRoom n m self.new }
+    {
+        let number = number.get();
+        drop_ready(
+            &mut self.ready,
+            approval_of(&self.rows, &self.positions, number),
+            number,
+        );
+        set_row(&mut self.rows, &self.positions, number, stage);
     }
 
     /// The change is no longer there, if it was.

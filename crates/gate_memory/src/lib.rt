@@ -1,5 +1,5 @@
-//! The tables of a book in memory: sorted rows beside the indexes by which they are found. A change of one is made in two
-//! steps: `make_room` takes all memory that it will need, and may be refused it; then the change itself can't fail.
+//! The tables of a book in memory: sorted rows beside the indexes by which they are found. A change of one is made in
+//! two steps: `make_room` takes all memory that it will need, and may be refused it; then the change itself can't fail.
 //!
 //! ```text
 //! plans.make_room(1)?;

@@ -1,7 +1,9 @@
 //! The plans of a book in memory.
-ghost use Rattle.std.specs.Prelude.{◌≡◌, ◌==◌, ℕ, suc, [], find, is_some, IfOk, OnOk};
+ghost use Rattle.std.specs.Prelude.{◌≡◌, ◌==◌, ℕ, suc, [], find, is_some, vec_capacity, vec_len, IfOk, OnOk};
 ghost use Rattle.gate_types.specs.State.{put_by};
 ghost use Rattle.gate_types.specs.Keys.{serial_of_plan};
+ghost use Rattle.gate_types.specs.Rising.{RisesFrom};
+ghost use Rattle.gate_types.specs.Tables.{unmark};
 ghost use Rattle.gate_memory.specs.Sorted.{without};
 ghost use Rattle.gate_memory.specs.Plans.{IsKept, HasRoom};
 
@@ -25,6 +27,18 @@ impl Keyed for Plan {
 
     fn key(&self) -> u128 {
         self.serial.get() as u128
+    }
+}
+
+/// The plan under a serial fails fast no longer.
+fn unmark(rows: &mut Vec<Plan>, serial: Serial)
+    requires { RisesFrom serial_of_plan 0 rows.old.items }
+    ensures rows { rows.new.items ≡ unmark serial rows.old.items }
+    ensures len { vec_len rows.new ≡ vec_len rows.old }
+    ensures capacity { vec_capacity rows.new ≡ vec_capacity rows.old }
+{
+    if let Some(position) = sorted::position_at(rows, serial.get() as u128) {
+        rows[position].fast = false;
     }
 }
 
@@ -68,6 +82,16 @@ impl PlanTable {
         ensures room { (n : ℕ) → HasRoom n self.old → HasRoom n self.new }
     {
         sorted::remove(&mut self.rows, serial.get() as u128);
+    }
+
+    /// The plan under a serial fails fast no longer, if there is one.
+    pub fn unmark(&mut self, serial: Serial)
+        requires { IsKept self.old }
+        ensures rows { self.new.rows.items ≡ unmark serial self.old.rows.items }
+        ensures kept { IsKept self.new }
+        ensures room { (n : ℕ) → HasRoom n self.old → HasRoom n self.new }
+    {
+        unmark(&mut self.rows, serial);
     }
 
     pub fn get(&self, serial: Serial) -> Result<Option<Plan>, NoMemory>

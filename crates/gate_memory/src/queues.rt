@@ -169,7 +169,7 @@ impl QueueTable {
     {
         match edit {
             Edit::PutItem { queue, item } if same_name(queue, &self.name) => self.put_item(item),
-            Edit::DropItem(serial) => self.drop_item(*serial),
+            Edit::DropItem(serial) | Edit::LandItem(serial) => self.drop_item(*serial),
             Edit::PutLanding {
                 queue,
                 place,

@@ -1,14 +1,16 @@
--- What is told of a change and its needs, where it is put.
+-- What is told of a change and its needs, where it is put, or its stage is set.
 use Rattle.std.proofs.Common.{◌≡◌, ℕ, suc, List, [], ◌∷◌, ◌++◌, filter, Bool, true, false, not, cond, eqb, Some}
-use Rattle.std.proofs.Common.{Option, refl, sym, ap, ◌∙◌, arith, append-nil}
+use Rattle.std.proofs.Common.{None, Option, refl, sym, ap, ◌∙◌, arith, append-nil}
 use Rattle.std.specs.Option.{option_map_or}
-use Rattle.std.specs.Prelude.{find}
+use Rattle.std.specs.Prelude.{find, option_map}
 use Rattle.std.proofs.lemmas.Bool.Decides.{nat_tests}
 use Rattle.gate_types.specs.State.{put_by}
-use Rattle.gate_types.specs.Tables.{Tables, edited_queue, edited_tables}
+use Rattle.gate_types.specs.Tables.{Tables, at_stage, change_known, edited_queue, edited_tables}
 use Rattle.gate_types.specs.declared.edits.Edit.TheVariants as edit
 use Rattle.gate_types.specs.declared.records.Change.{Change}
+use Rattle.gate_types.specs.declared.records.Stage.{Stage}
 use Rattle.gate_types.specs.declared.rows.ChangeRow.{ChangeRow}
+use Rattle.gate_types.proofs.ChangedLemmas.{found_changed}
 use Rattle.gate_schema.specs.Edits.{after_edit, change_with, need_rows}
 use Rattle.gate_schema.specs.Rows.{NeedRow, Stored, change_key}
 use Rattle.gate_rows.specs.Matches.{IsInOrder, Matches, needs_in}
@@ -68,3 +70,28 @@ matches_change k a b t order h =
         ≡ need_rows n 0 (option_map_or (λ (r : ChangeRow). r.change.needs) (cond c (Some (change_with k a)) (find (λ (r : ChangeRow). eqb r.change.number n) t.changes)) [])
     go n true e = let same : k.number ≡ n = grind (arith, nat_tests) in ap (λ m. need_rows m 0 k.needs) same
     go n false e = append-nil (need_rows n 0 (needs_in t.changes n))
+
+-- ---- a stage set
+
+needs_same : (n : ℕ) (g : Stage) (o : Option ChangeRow)
+    → option_map_or (λ (r : ChangeRow). r.change.needs) (option_map (λ (r : ChangeRow). cond (eqb r.change.number n) (at_stage g r) r) o) []
+    ≡ option_map_or (λ (r : ChangeRow). r.change.needs) o []
+needs_same n g None = refl
+needs_same n g (Some r) = elim (eqb r.change.number n) as (λ c. (cond c (at_stage g r) r).change.needs ≡ r.change.needs) [ true ↦ refl | false ↦ refl ]
+
+-- a change at another stage needs what it did
+pub needs_at_stage : (n : ℕ) (g : Stage) (rows : List ChangeRow) (m : ℕ) → needs_in (change_known n (at_stage g) rows) m ≡ needs_in rows m
+needs_at_stage n g rows m =
+    ap (λ o. option_map_or (λ (r : ChangeRow). r.change.needs) o []) (found_changed change_key n (at_stage g) (λ r. refl) m rows)
+    ∙ needs_same n g (find (λ (r : ChangeRow). eqb r.change.number m) rows)
+
+pub matches_stage : (n : ℕ) (g : Stage) (b : Stored) (t : Tables) → Matches b t → Matches (after_edit (edit.SetStage n g) b) (edited_tables t (edit.SetStage n g))
+matches_stage n g b t h = record {
+  queues_are = queues_stay (edited_queue (edit.SetStage n g)) (λ q. refl) (λ q. refl) (λ q. refl) (λ q. refl) (λ q. refl) _ _ _ _ _ h.queues_are;
+  changes_are = ap (change_known n (at_stage g)) h.changes_are;
+  needs_are = λ m. h.needs_are m ∙ ap (need_rows m 0) (sym (needs_at_stage n g t.changes m));
+  counters_are = h.counters_are;
+  builds_are = h.builds_are;
+  kept_are = h.kept_are;
+  plans_are = h.plans_are;
+}

@@ -3,14 +3,17 @@ use Rattle.std.proofs.Common.{◌≡◌, ℕ, suc, List, [], ◌∷◌, ◌++◌
 use Rattle.std.proofs.Common.{length, true≢false, Some, None, Option, refl, sym, ap, subst, ◌∙◌, arith, append-nil}
 use Rattle.std.specs.List.{AllByRecursion, list_any}
 use Rattle.std.specs.Option.{option_map_or}
-use Rattle.std.specs.Prelude.{find, is_some, pos}
-use Rattle.std.proofs.lemmas.Bool.{or_parts}
+use Rattle.std.specs.Prelude.{find, is_some, option_map, pos}
+use Rattle.std.proofs.lemmas.Bool.{eqb-true, eq-eqb, or_parts}
 use Rattle.std.proofs.lemmas.Bool.Decides.{nat_tests}
 use Rattle.sqlite_keyed.specs.Keyed.{IsKeyedBy, insert_by}
 use Rattle.gate_types.specs.State.{put_by}
+use Rattle.gate_types.specs.Tables.{unmark, unmarked}
 use Rattle.gate_types.specs.declared.config.Job.{Job}
 use Rattle.gate_types.specs.declared.records.Plan.{Plan}
-use Rattle.gate_schema.specs.Edits.{add_plan, drop_plan, job_rows}
+use Rattle.gate_types.proofs.ChangedLemmas.{found_changed, found_key}
+use Rattle.gate_types.proofs.PlainLemmas.{same_truth}
+use Rattle.gate_schema.specs.Edits.{add_plan, drop_fast, drop_plan, job_rows}
 use Rattle.gate_schema.specs.Rows.{JobRow, Stored, fast_key}
 use Rattle.gate_rows.specs.Matches.{HaveJobs, IsFree, PlansMatch, is_fast_in, jobs_in}
 use Rattle.gate_rows.proofs.PutLemmas.{filter-append, find_put, put_is}
@@ -96,6 +99,40 @@ plans_without k b plans h = record {
       there_without k n b.fast ∙ ap (λ t. cond (eqb k n) false t) (h.fast_are n)
       ∙ elim (eqb k n) as (λ c. cond c false (is_fast_in plans n) ≡ option_map_or (λ (p : Plan). p.fast) (cond c None (find (λ (p : Plan). eqb p.serial n) plans)) false) [ true ↦ refl | false ↦ refl ]
       ∙ sym (ap (λ o. option_map_or (λ (p : Plan). p.fast) o false) (found_without plan_key k n plans));
+}
+
+-- ---- a plan without its mark
+
+-- what is found under a serial, without its mark if it is this one
+abbrev unmarked_if : ℕ → Plan → Plan
+unmarked_if k p = cond (eqb p.serial k) (unmarked p) p
+
+found_unmarked : (k n : ℕ) (plans : List Plan)
+    → find (λ (p : Plan). eqb p.serial n) (unmark k plans) ≡ option_map (unmarked_if k) (find (λ (p : Plan). eqb p.serial n) plans)
+found_unmarked k n plans = found_changed plan_key k unmarked (λ p. refl) n plans
+
+jobs_same : (k : ℕ) (o : Option Plan) → option_map_or (λ (p : Plan). p.jobs) (option_map (unmarked_if k) o) [] ≡ option_map_or (λ (p : Plan). p.jobs) o []
+jobs_same k None = refl
+jobs_same k (Some p) = elim (eqb p.serial k) as (λ c. (cond c (unmarked p) p).jobs ≡ p.jobs) [ true ↦ refl | false ↦ refl ]
+
+mark_gone : (k n : ℕ) (o : Option Plan) → ((p : Plan) → o ≡ Some p → p.serial ≡ n)
+    → option_map_or (λ (p : Plan). p.fast) (option_map (unmarked_if k) o) false ≡ cond (eqb k n) false (option_map_or (λ (p : Plan). p.fast) o false)
+mark_gone k n None its = elim (eqb k n) as (λ c. false ≡ cond c false false) [ true ↦ refl | false ↦ refl ]
+mark_gone k n (Some p) its =
+    let at : p.serial ≡ n = its p refl in
+    let same = same_truth (eqb p.serial k) (eqb k n) (λ e. eq-eqb k n (sym (eqb-true p.serial k e) ∙ at)) (λ e. eq-eqb p.serial k (at ∙ sym (eqb-true k n e))) in
+    ap (λ c. (cond c (unmarked p) p).fast) same
+    ∙ elim (eqb k n) as (λ c. (cond c (unmarked p) p).fast ≡ cond c false p.fast) [ true ↦ refl | false ↦ refl ]
+
+pub plans_unmarked : (k : ℕ) (b : Stored) (plans : List Plan) → PlansMatch b.jobs b.fast plans → PlansMatch b.jobs (drop_fast k b).fast (unmark k plans)
+plans_unmarked k b plans h = record {
+  jobs_are = λ n.
+      h.jobs_are n
+      ∙ ap (job_rows n 0) (sym (ap (λ o. option_map_or (λ (p : Plan). p.jobs) o []) (found_unmarked k n plans) ∙ jobs_same k (find (λ (p : Plan). eqb p.serial n) plans)));
+  fast_are = λ n.
+      there_without k n b.fast ∙ ap (λ t. cond (eqb k n) false t) (h.fast_are n)
+      ∙ sym (ap (λ o. option_map_or (λ (p : Plan). p.fast) o false) (found_unmarked k n plans)
+      ∙ mark_gone k n (find (λ (p : Plan). eqb p.serial n) plans) (found_key plan_key n plans));
 }
 
 -- ---- no plan under a serial

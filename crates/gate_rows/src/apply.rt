@@ -6,11 +6,11 @@ ghost use Rattle.gate_rows.specs.Matches.{FitsBeside};
 ghost use Rattle.gate_rows.specs.Writes.{Found, Keeps, LeavesNothing, Makes};
 
 use crate::builds::{put_build, set_outcome, stop_build};
-use crate::changes::put_change;
+use crate::changes::{put_change, set_stage};
 use crate::history::{keep, put_landing, put_report};
 use crate::items::put_item;
 use crate::numbers::{set_counter, set_window};
-use crate::plans::{drop_planned, put_plan};
+use crate::plans::{drop_planned, land_item, put_plan};
 use gate_types::edits::Edit;
 use sqlite::{Alter, Error, Transaction};
 use std::alloc::Global;
@@ -32,8 +32,10 @@ pub fn apply_one<S: Alter>(
 {
     match edit {
         Edit::PutChange { change, approval } => put_change(tx, change, *approval),
+        Edit::SetStage { change, stage } => set_stage(tx, *change, *stage),
         Edit::PutItem { queue, item } => put_item(tx, queue, item),
         Edit::DropItem(serial) => drop_planned(tx, *serial),
+        Edit::LandItem(serial) => land_item(tx, *serial),
         Edit::PutPlan(plan) => put_plan(tx, plan),
         Edit::PutLanding {
             queue,

@@ -7,7 +7,7 @@ ghost use Rattle.gate_rows.specs.Writes.{Keeps, LeavesNothing, Makes};
 use crate::statement::run;
 use crate::values::{change, number, number_if_any, revision, text, too_large};
 use gate_types::numbers::ChangeNo;
-use gate_types::records::Change;
+use gate_types::records::{Change, Stage};
 use sqlite::{Alter, Error, Transaction};
 
 /// The row of a change, in place of the old one. An Err where no column can hold the number of its
@@ -114,10 +114,29 @@ pub(crate) fn put_change<S: Alter>(
 ) -> Result<(), Error>
     ensures same_reference { tx.new.conn.ghost_name ≡ tx.old.conn.ghost_name }
     ensures changes { Makes (state S.Store tx.old.conn.now) (state S.Store tx.new.conn.now) result
-        (edits.put_change k.now approval) }
+        (edits.replace_change k.now approval) }
     ensures kept { Keeps (state S.Store tx.old.conn.now) (state S.Store tx.new.conn.now) }
     ensures crash { LeavesNothing (state S.Store tx.old.conn.now) (state S.Store tx.new.conn.now) }
 {
     renew_change(tx, k, approval)?;
     renew_needs(tx, k.number, k.needs.as_slice())
+}
+
+/// The stage of a change, which is ready no longer.
+pub(crate) fn set_stage<S: Alter>(
+    tx: &mut Transaction<'_, S>,
+    n: ChangeNo,
+    stage: Stage,
+) -> Result<(), Error>
+    ensures same_reference { tx.new.conn.ghost_name ≡ tx.old.conn.ghost_name }
+    ensures changes { Makes (state S.Store tx.old.conn.now) (state S.Store tx.new.conn.now) result
+        (edits.set_stage n stage) }
+    ensures kept { Keeps (state S.Store tx.old.conn.now) (state S.Store tx.new.conn.now) }
+    ensures crash { LeavesNothing (state S.Store tx.old.conn.now) (state S.Store tx.new.conn.now) }
+{
+    run(
+        tx,
+        "UPDATE change SET state = ?2, approval = NULL WHERE num = ?1",
+        &[change(n), text(stage.word())],
+    )
 }

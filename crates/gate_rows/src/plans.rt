@@ -60,6 +60,18 @@ pub(crate) fn drop_planned<S: Alter>(tx: &mut Transaction<'_, S>, n: Serial) -> 
     drop_plan(tx, n)
 }
 
+/// Takes the item of a serial out, and that it fails fast; the jobs of its plan stay.
+pub(crate) fn land_item<S: Alter>(tx: &mut Transaction<'_, S>, n: Serial) -> Result<(), Error>
+    ensures same_reference { tx.new.conn.ghost_name ≡ tx.old.conn.ghost_name }
+    ensures changes { Makes (state S.Store tx.old.conn.now) (state S.Store tx.new.conn.now) result
+        (λ b. edits.drop_fast n (edits.drop_item n b)) }
+    ensures kept { Keeps (state S.Store tx.old.conn.now) (state S.Store tx.new.conn.now) }
+    ensures crash { LeavesNothing (state S.Store tx.old.conn.now) (state S.Store tx.new.conn.now) }
+{
+    drop_item(tx, n)?;
+    drop_fast(tx, n)
+}
+
 /// Adds a job at its index. An Err where one is there.
 fn add_job<S: Alter>(
     tx: &mut Transaction<'_, S>,

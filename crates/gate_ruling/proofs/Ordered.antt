@@ -223,15 +223,16 @@ last_row q l place at =
 
 -- and its window is set, where it grows
 pub lands : (c : Settings) (x : Content) (k : QueuedItem) → are_sound c ≡ true → IsSound c x.state →
-    (h : Stored c x.state k.queue k.item) → (place w : ℕ) → place ≡ length h.queue.landings + 1 →
-    w ≡ grow h.queue.window (bounds_named c k.queue).rule →
-    Moves (in_state x (leave (verdict.Landed place) k.item.change x.state))
+    (h : Stored c x.state k.queue k.item) → (plans : List Plan) (place w : ℕ) →
+    place ≡ length h.queue.landings + 1 → w ≡ grow h.queue.window (bounds_named c k.queue).rule →
+    Moves (in_state x (record (leave (verdict.Landed place) k.item.change x.state) { plans = plans }))
     (landing_edits k place h.queue.window w)
-    (change_queue k.queue (landed_queue c (item_of k.item)) (leave (verdict.Landed place) k.item.change x.state))
-lands c x k settings sound h place w at is = by_test (h.queue.window == w) refl
+    (change_queue k.queue (landed_queue c (item_of k.item))
+    (record (leave (verdict.Landed place) k.item.change x.state) { plans = plans }))
+lands c x k settings sound h plans place w at is = by_test (h.queue.window == w) refl
   where
     t : State
-    t = leave (verdict.Landed place) k.item.change x.state
+    t = record (leave (verdict.Landed place) k.item.change x.state) { plans = plans }
 
     left : Queue
     left = left_queue (verdict.Landed place) k.item.change h.queue
@@ -293,17 +294,6 @@ lands c x k settings sound h place w at is = by_test (h.queue.window == w) refl
           counters = refl;
           kept = refl;
         })
-
--- a plan is put
-pub plan_put : (x : Content) (s : State) (p : Plan) → Moves (in_state x s) (edit.PutPlan p ∷ []) (put_plan p s)
-plan_put x s p = by_parts (in_state x s) (edit.PutPlan p ∷ []) (put_plan p s) (record {
-  changes = refl;
-  queues = λ columns. refl;
-  plans = refl;
-  builds = refl;
-  counters = refl;
-  kept = refl;
-})
 
 -- the state that `landed` leaves
 abbrev pub landed_state : Settings → QueuedItem → ℕ → Change → State → State

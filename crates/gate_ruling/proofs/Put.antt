@@ -1,12 +1,13 @@
 -- The row of a change is put: the change, and its approval while it is ready.
-use Rattle.std.proofs.Common.{◌≡◌, ℕ, ◌+◌, ◌<◌, Bool, true, false, not, cond, Option, Some, None, List, [], ◌∷◌, ◌++◌}
-use Rattle.std.proofs.Common.{map, filter, refl, sym, ap, ◌∙◌, arith, inl, inr}
+use Rattle.std.proofs.Common.{◌≡◌, ℕ, suc, ◌+◌, ◌<◌, ◌≤◌, Bool, true, false, not, cond, Option, Some, None, List, []}
+use Rattle.std.proofs.Common.{◌∷◌, ◌++◌, map, filter, refl, sym, ap, ◌∙◌, arith, inl, inr}
 use Rattle.std.specs.Prelude.{◌==◌, ◌≢◌, nat_lt, find, option_map}
 use Rattle.std.specs.List.{list_any}
 use Rattle.std.specs.List.Sorted.{IsStrictlyIncreasing}
 use Rattle.std.proofs.lemmas.Bool.{or_parts, eq-eqb, ne_eqb, eqb-true, eqb-false, ltb-true, le-ltb}
 use Rattle.gate_types.specs.declared.records.Change.{Change}
 use Rattle.gate_types.specs.declared.records.Ready.{Ready}
+use Rattle.gate_types.specs.declared.records.Stage.{Stage}
 use Rattle.gate_types.specs.declared.rows.ChangeRow.{ChangeRow}
 use Rattle.gate_types.specs.declared.edits.Edit.TheVariants as edit
 use Rattle.gate_types.specs.declared.edits.Counter.TheVariants as counter
@@ -14,8 +15,11 @@ use Rattle.gate_types.specs.State.{State, put_by, put_change, known_change, is_r
 use Rattle.gate_types.specs.Admit.{without_ready}
 use Rattle.gate_types.specs.Step.{made_ready}
 use Rattle.gate_types.specs.Once.{Content}
-use Rattle.gate_types.specs.Tables.{approval_of, change_row}
-use Rattle.gate_types.specs.Rising.{In}
+use Rattle.gate_types.specs.Tables.{approval_of, at_stage, change_row}
+use Rattle.gate_types.specs.Keys.{number_of_change}
+use Rattle.gate_types.specs.Rising.{In, RisesFrom}
+use Rattle.gate_types.proofs.ChangedLemmas.{put_changes}
+use Rattle.gate_book_trait.proofs.Finding.{find_map}
 use Rattle.gate_laws.proofs.Members.{map_same, found}
 use Rattle.gate_laws.proofs.Rising.{Rising, rising}
 use Rattle.gate_reads.specs.Moves.{in_state, Moves}
@@ -186,6 +190,40 @@ pub anew_moves : (x : Content) (s : State) (k : Change) → IsStrictlyIncreasing
 anew_moves x s k rises =
     put_moves x s k None (filter (λ r. not (r.change == k.number)) s.ready) rises (taken_out s.ready k.number)
     (λ m apart. others_stay s.ready k.number m apart)
+
+-- the rows of changes rise as these do
+rows_rise : (rs : List Ready) (low : ℕ) (ks : List Change) → ((y : Change) → In y ks → low ≤ y.number) →
+    Rising number_of ks → RisesFrom number_of_change low (map (change_row rs) ks)
+rows_rise rs low [] above r = tt
+rows_rise rs low (j ∷ js) above r =
+    (above j (inl refl), rows_rise rs (suc j.number) js (λ y m. let l = r.0 y m in omega (arith, l)) r.1)
+
+-- a known change is set to a stage, and is ready no longer
+pub stage_moves : (x : Content) (s : State) (k : Change) (g : Stage) → IsStrictlyIncreasing (map number_of s.changes) →
+    known_change s k.number ≡ Some k →
+    Moves (in_state x s) (edit.SetStage k.number g ∷ [])
+    (put_change (record k { stage = g }) (without_ready k.number s))
+stage_moves x s k g rises known =
+    let up = rising number_of s.changes rises in
+    let ready = filter (λ r. not (r.change == k.number)) s.ready in
+    let found : find (λ (r : ChangeRow). r.change.number == k.number) (map (change_row s.ready) s.changes)
+    ≡ Some (change_row s.ready k) =
+    find_map (change_row s.ready) (λ (r : ChangeRow). r.change.number == k.number) s.changes
+    ∙ ap (option_map (change_row s.ready)) known in
+    by_parts (in_state x s) (edit.SetStage k.number g ∷ [])
+    (put_change (record k { stage = g }) (without_ready k.number s))
+    (record {
+      changes = sym (put_changes number_of_change k.number (at_stage g) (λ r. refl) 0
+          (map (change_row s.ready) s.changes)
+          (change_row s.ready k) (rows_rise s.ready 0 s.changes (λ y m. omega arith) up) found)
+          ∙ rows_put s.ready ready (record k { stage = g }) None (taken_out s.ready k.number)
+          (λ m apart. others_stay s.ready k.number m apart) s.changes up;
+      queues = λ columns. refl;
+      plans = refl;
+      builds = refl;
+      counters = refl;
+      kept = refl;
+    })
 
 -- a known change becomes ready
 pub ready_moves : (x : Content) (n : ℕ) (k : Change) → IsStrictlyIncreasing (map number_of x.state.changes) →

@@ -20,10 +20,9 @@ use Rattle.gate_reads.specs.Touches.{AreFigures}
 abbrev pub stop_of : Build → Edit
 stop_of b = edit.StopBuild b.number
 
--- the item of a queue is reported, at a place, and dropped
-abbrev pub out_of_queue : QueuedItem → ℕ → Verdict → List Edit
-out_of_queue k place v =
-    edit.PutReport k.queue place (report_of v (item_of k.item)) ∷ edit.DropItem k.item.serial ∷ []
+-- the item of a queue is reported, at a place, and gone by this edit
+abbrev pub out_of_queue : QueuedItem → Edit → ℕ → Verdict → List Edit
+out_of_queue k gone place v = edit.PutReport k.queue place (report_of v (item_of k.item)) ∷ gone ∷ []
 
 -- the change is that of this item, which it takes out of its queue
 pub record IsLeaving (c : Settings) (s : State) (n : ℕ) (v : Verdict) (k : TouchedItem) : Type 0 where

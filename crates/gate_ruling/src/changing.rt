@@ -1,7 +1,7 @@
 //! A change is recorded anew.
-ghost use Rattle.std.specs.Prelude.{◌≡◌, map, IfOk};
+ghost use Rattle.std.specs.Prelude.{◌≡◌, map, IfOk, Some};
 ghost use Rattle.std.specs.List.Sorted.{IsStrictlyIncreasing};
-ghost use Rattle.gate_types.specs.State.{State, put_change, is_open};
+ghost use Rattle.gate_types.specs.State.{State, put_change, is_open, known_change};
 ghost use Rattle.gate_types.specs.Admit.{without_ready};
 ghost use Rattle.gate_types.specs.Once.{Content};
 ghost use Rattle.gate_reads.specs.Moves.{Moves};
@@ -17,7 +17,7 @@ pub(crate) fn is_open(change: &Change) -> bool
     matches!(change.stage, Stage::Open)
 }
 
-/// Edits, and then the change's row anew: it is ready no longer.
+/// Edits, and then the change's row anew, with its needs: it is ready no longer.
 pub(crate) fn put_anew(edits: Vec<Edit>, change: Change) -> Result<Vec<Edit>, NoMemory>
     ensures { IfOk result (λ all. (x : Content) (t : State) →
         IsStrictlyIncreasing (map (λ k. k.number) t.changes) → Moves x edits.items t →
@@ -31,11 +31,17 @@ pub(crate) fn put_anew(edits: Vec<Edit>, change: Change) -> Result<Vec<Edit>, No
     Ok(edits)
 }
 
-/// The same of a known change at another stage. Apart, so that no early return of a caller has to end parts of it.
-pub(crate) fn put_at(edits: Vec<Edit>, known: Change, stage: Stage) -> Result<Vec<Edit>, NoMemory>
+/// Edits, and then a known change at a stage: it is ready no longer, and the rest of its row stays.
+pub(crate) fn set_at(edits: Vec<Edit>, known: &Change, stage: Stage) -> Result<Vec<Edit>, NoMemory>
     ensures { IfOk result (λ all. (x : Content) (t : State) →
-        IsStrictlyIncreasing (map (λ k. k.number) t.changes) → Moves x edits.items t →
-        Moves x all.items (put_change (record known { stage = stage }) (without_ready known.number t))) }
+        IsStrictlyIncreasing (map (λ k. k.number) t.changes) → known_change t known.now.number ≡ Some known.now →
+        Moves x edits.items t →
+        Moves x all.items (put_change (record known.now { stage = stage }) (without_ready known.now.number t))) }
 {
-    put_anew(edits, Change { stage, ..known })
+    let mut edits = edits;
+    edits.push(Edit::SetStage {
+        change: known.number,
+        stage,
+    })?;
+    Ok(edits)
 }

@@ -1,7 +1,7 @@
 //! The lines that several kinds of deliveries begin with: what a delivery has to name before anything else is asked.
-ghost use Rattle.std.specs.Prelude.{IfOk, IfErr};
+ghost use Rattle.std.specs.Prelude.{IfOk};
 ghost use Rattle.gate_book_trait.specs.Faults.{MayAnswer};
-ghost use Rattle.gate_book_trait.specs.Kept.{OfHeld, OfHeldUnder, IsKept};
+ghost use Rattle.gate_book_trait.specs.Reading.{IsRead, IsReadUnder};
 ghost use Rattle.gate_ruling.specs.Guards.{IsLatest, IsOrdered};
 
 use gate_book_trait::{Book, BookFault};
@@ -18,10 +18,8 @@ pub(crate) fn latest<B: Book>(
     change: ChangeNo,
     revision: Revision,
 ) -> Result<Result<Change, Raw>, BookFault>
-    ensures latest { OfHeld B.IsTrusted B.Holds book.old book.new (λ c x.
-        IfOk result (IsLatest c x change revision)) }
-    ensures kept { IsKept B.IsTrusted B.Holds B.LeavesOneOf book.old book.new }
-    ensures fault { IfErr result (MayAnswer B.MayFault) }
+    ensures { IsRead B.IsTrusted B.Holds B.LeavesOneOf (MayAnswer B.MayFault) book.old book.new (λ c x.
+        IfOk result (IsLatest c x change revision)) result }
 {
     let Some(known) = book.change(change)? else {
         return Ok(Err(Raw::Refused(Refusal::UnknownChange)));
@@ -42,10 +40,8 @@ pub(crate) fn ordered<B: Book>(
     config: &Config,
     order: Serial,
 ) -> Result<Result<ShownItem, Raw>, BookFault>
-    ensures ordered { OfHeldUnder B.IsTrusted B.Holds book.old book.new config.now (λ x.
-        IfOk result (IsOrdered config.now x order)) }
-    ensures kept { IsKept B.IsTrusted B.Holds B.LeavesOneOf book.old book.new }
-    ensures fault { IfErr result (MayAnswer B.MayFault) }
+    ensures { IsReadUnder B.IsTrusted B.Holds B.LeavesOneOf (MayAnswer B.MayFault) book.old book.new config.now (λ x.
+        IfOk result (IsOrdered config.now x order)) result }
 {
     match shown_order(alloc, book, config, order)? {
         Some(shown) => Ok(Ok(shown)),

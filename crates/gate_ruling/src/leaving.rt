@@ -2,7 +2,8 @@
 ghost use Rattle.std.specs.Prelude.{◌≡◌, ℕ, false, ◌++◌, map, filter, IfOk, IfErr, Contains};
 ghost use Rattle.gate_types.specs.Slot.{is_running};
 ghost use Rattle.gate_types.specs.SubmitOrder.{is_submitting};
-ghost use Rattle.gate_types.specs.Step.{leave};
+ghost use Rattle.gate_types.specs.State.{put_plan};
+ghost use Rattle.gate_types.specs.Step.{leave, landed_plan};
 ghost use Rattle.gate_types.specs.Once.{Content};
 ghost use Rattle.gate_types.specs.Forms.{IsLawfulContent};
 ghost use Rattle.gate_book_trait.specs.Faults.{MayAnswer};
@@ -27,14 +28,15 @@ pub(crate) struct Left {
     pub touched: Option<TouchedItem>,
 }
 
-/// The item's report, at a place of its queue, and the end of its row.
+/// The item's report, at a place of its queue, and the edit that ends its row.
 fn out_of_queue(
     alloc: Global,
     queued: &QueuedItem,
+    gone: Edit,
     place: u64,
     verdict: Verdict,
 ) -> Result<Vec<Edit>, NoMemory>
-    ensures { IfOk result (λ edits. edits.items ≡ out_of_queue queued.now place verdict) }
+    ensures { IfOk result (λ edits. edits.items ≡ out_of_queue queued.now gone place verdict) }
 {
     let item = queued.item;
     let queue = queued.queue.copy()?;
@@ -50,7 +52,7 @@ fn out_of_queue(
         place,
         report,
     })?;
-    edits.push(Edit::DropItem(item.serial))?;
+    edits.push(gone)?;
     Ok(edits)
 }
 
@@ -85,7 +87,29 @@ pub(crate) fn leaving(
         Moves x edits.items (leave verdict queued.now.item.change x.state)) }
 {
     config.show_sound();
-    let edits = out_of_queue(alloc, queued, reports.saturating_add(1), verdict)?;
+    let gone = Edit::DropItem(queued.item.serial);
+    let edits = out_of_queue(alloc, queued, gone, reports.saturating_add(1), verdict)?;
+    with_stops(edits, builds)
+}
+
+/// The same of an item that lands: the jobs of its plan stay.
+pub(crate) fn landing(
+    alloc: Global,
+    config: &Config,
+    queued: &QueuedItem,
+    reports: u64,
+    builds: &[Build],
+    verdict: Verdict,
+) -> Result<Vec<Edit>, NoMemory>
+    ensures { IfOk result (λ edits. (x : Content) → IsLawfulContent config.now x →
+        Contains (items_in config.now x.state queued.now.queue) queued.now.item →
+        reports ≡ reports_in x.state queued.now.queue → builds.now ≡ live_builds x.state queued.now.item.serial →
+        Moves x edits.items (put_plan (landed_plan x.state queued.now.item.serial)
+        (leave verdict queued.now.item.change x.state))) }
+{
+    config.show_sound();
+    let gone = Edit::LandItem(queued.item.serial);
+    let edits = out_of_queue(alloc, queued, gone, reports.saturating_add(1), verdict)?;
     with_stops(edits, builds)
 }
 

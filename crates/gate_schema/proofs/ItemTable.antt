@@ -26,9 +26,10 @@ use Rattle.sqlite_tied.proofs.RuleLemmas.{and_true}
 use Rattle.sqlite_tied.specs.Compute.{everything}
 use Rattle.sqlite_trees.specs.Tree.{put_row}
 use Rattle.gate_schema.specs.Edits.{add_item, drop_item, insert_if, set_item}
-use Rattle.gate_schema.specs.Rows.{ItemRow, IsReady, Changes, IsKeyed, Stands, Stored, bit, number_or_null, item_row}
+use Rattle.gate_schema.specs.Rows.{ItemRow, IsReady, Changes, IsKeyed, Stands, Stored, bit, number_or_null}
+use Rattle.gate_schema.specs.Rows.{item_table_row}
 use Rattle.gate_schema.specs.Rows.{item_key}
-use Rattle.gate_schema.specs.Schema.{gate_schema, item_at}
+use Rattle.gate_schema.specs.Schema.{gate_schema, item_table_at}
 use Rattle.gate_schema.proofs.ChangeLemmas.{keyed_found, keyed_put, keyed_set, keyed_without, keyed_numbered, one_keyed}
 use Rattle.gate_schema.proofs.DeleteLemmas.{deleted_ids, leaves_others}
 use Rattle.gate_schema.proofs.QueryLemmas.{over_table, passes, shows_few}
@@ -58,17 +59,17 @@ pub adds_item : (x : ItemRow) (old new : State) (count : ℕ) → IsReady old �
 adds_item x old new count ready h =
     let params = item_params x in
     let w = runs_as add_item_sql params old new gate_schema ready.schema_is (Insert 5 (Values add_item_terms 7)) add_item_is.0 add_item_is.1 count h.0 in
-    let e = inserts gate_schema (λ _ _ _. refl) old new ready.schema_is 5 (item_at 11) refl (statement_of add_item_sql (understood gate_schema add_item_sql)) params count refl (Values add_item_terms 7) w in
-    let rows : e.0 ≡ item_row x ∷ [] = e.1.1 in
-    let stored : cast_row (item_at 11) (item_row x) ≡ item_row x = rw (cast_int, cast_null, cast_int, cast_int, cast_or_null, cast_int) in
-    let left : new.now.trees 11 ≡ put_row (item_row x) (old.now.trees 11) =
-    e.2.applies.rows ∙ ap (λ rs. edited old.now.trees (edit_of old.now.trees (item_at 11) [] Chosen 0 rs)) rows
+    let e = inserts gate_schema (λ _ _ _. refl) old new ready.schema_is 5 (item_table_at 11) refl (statement_of add_item_sql (understood gate_schema add_item_sql)) params count refl (Values add_item_terms 7) w in
+    let rows : e.0 ≡ item_table_row x ∷ [] = e.1.1 in
+    let stored : cast_row (item_table_at 11) (item_table_row x) ≡ item_table_row x = rw (cast_int, cast_null, cast_int, cast_int, cast_or_null, cast_int) in
+    let left : new.now.trees 11 ≡ put_row (item_table_row x) (old.now.trees 11) =
+    e.2.applies.rows ∙ ap (λ rs. edited old.now.trees (edit_of old.now.trees (item_table_at 11) [] Chosen 0 rs)) rows
     ∙ ap (λ r. put_row (with_rowid Chosen (old.now.trees 11) r) (old.now.trees 11)) stored in
     record {
       ready = record { schema_is = e.2.schema_is; inside = h.1.mode };
       named = λ b named. named;
       stands = λ b named stands. with_items new.now.trees b _ (others_stay old new _ 11 b e.2 refl refl stands)
-          (subst (λ rs. IsKeyed item_key item_row rs (insert_by (λ y. pos (item_key y)) b.items x)) (sym left) (keyed_put item_key item_row (λ x. refl) x (old.now.trees 11) b.items stands.item));
+          (subst (λ rs. IsKeyed item_key item_table_row rs (insert_by (λ y. pos (item_key y)) b.items x)) (sym left) (keyed_put item_key item_table_row (λ x. refl) x (old.now.trees 11) b.items stands.item));
     }
 
 -- ---- the item of a serial taken out
@@ -89,7 +90,7 @@ drops_item n old new count ready h =
     let params = Int (pos n) ∷ [] in
     let program : Program = record { lets = []; body = drop_item_query } in
     let w = runs_as drop_item_sql params old new gate_schema ready.schema_is (Delete 5 program) drop_item_is.0 drop_item_is.1 count h.0 in
-    let e = deletes gate_schema (λ _ _ _. refl) old new ready.schema_is 5 (item_at 11) refl (statement_of drop_item_sql (understood gate_schema drop_item_sql)) params count program w in
+    let e = deletes gate_schema (λ _ _ _. refl) old new ready.schema_is 5 (item_table_at 11) refl (statement_of drop_item_sql (understood gate_schema drop_item_sql)) params count program w in
     let db = overlay old.now.trees [] in
     let test = passes (key_is 0 ∷ []) params in
     record {
@@ -97,10 +98,10 @@ drops_item n old new count ready h =
       named = λ b named. named;
       stands = λ b named stands.
           let left : new.now.trees 11 ≡ filter (λ r. not (test r)) (old.now.trees 11) =
-          e.2.applies.rows ∙ leaves_others test (old.now.trees 11) _ (keyed_numbered item_key item_row (λ x. refl) (old.now.trees 11) b.items stands.item) (deleted_ids 11 (key_is 0 ∷ []) db params e.0 (e.1.answer Null)) in
+          e.2.applies.rows ∙ leaves_others test (old.now.trees 11) _ (keyed_numbered item_key item_table_row (λ x. refl) (old.now.trees 11) b.items stands.item) (deleted_ids 11 (key_is 0 ∷ []) db params e.0 (e.1.answer Null)) in
           with_items new.now.trees b _ (others_stay old new _ 11 b e.2 refl refl stands)
-          (subst (λ rs. IsKeyed item_key item_row rs (filter (λ y. not (eqb (item_key y) n)) b.items)) (sym left)
-          (keyed_without item_key item_row (λ x. refl) test (λ y. eqb (item_key y) n) (λ y. rw equal_numbers (and_true (eqb (item_key y) n))) (old.now.trees 11) b.items stands.item));
+          (subst (λ rs. IsKeyed item_key item_table_row rs (filter (λ y. not (eqb (item_key y) n)) b.items)) (sym left)
+          (keyed_without item_key item_table_row (λ x. refl) test (λ y. eqb (item_key y) n) (λ y. rw equal_numbers (and_true (eqb (item_key y) n))) (old.now.trees 11) b.items stands.item));
     }
 
 -- ---- an item set in place of the one of its serial in its queue
@@ -122,13 +123,13 @@ set_item_is = (refl, (refl, refl))
 abbrev pub is_of : ItemRow → ItemRow → Bool
 is_of x y = eqb (item_key y) (item_key x) && bytes_eq y.queue x.queue
 
-is_of_row : (x y : ItemRow) → passes (key_is 0 ∷ second_is 2 ∷ []) (item_params x) (item_row y) ≡ is_of x y
+is_of_row : (x y : ItemRow) → passes (key_is 0 ∷ second_is 2 ∷ []) (item_params x) (item_table_row y) ≡ is_of x y
 is_of_row x y = rw (equal_numbers, equal_texts, and_true (bytes_eq y.queue x.queue))
 
 one_of : (x : ItemRow) (items : List ItemRow) → IsKeyedBy (λ y. pos (item_key y)) items → length (filter (is_of x) items) ≤ 1
-one_of x = one_keyed item_key item_row (λ y. refl) (item_key x) (is_of x) (λ y here. (and_parts _ _ here).0)
+one_of x = one_keyed item_key item_table_row (λ y. refl) (item_key x) (is_of x) (λ y here. (and_parts _ _ here).0)
 
-set_row : (x y : ItemRow) (trees : Trees) → is_of x y ≡ true → renewed (item_at 11) set_item_terms (item_params x) trees (item_row y) ≡ item_row x
+set_row : (x y : ItemRow) (trees : Trees) → is_of x y ≡ true → renewed (item_table_at 11) set_item_terms (item_params x) trees (item_table_row y) ≡ item_table_row x
 set_row x y trees here =
     let parts : (eqb (item_key y) (item_key x) ≡ true) × (bytes_eq y.queue x.queue ≡ true) = and_parts _ _ here in
     let first : eqb (item_key y) (item_key x) ≡ true = parts.0 in
@@ -143,14 +144,14 @@ sets_item x old new count ready h =
     let params = item_params x in
     let program : Program = record { lets = []; body = set_item_query } in
     let w = runs_as set_item_sql params old new gate_schema ready.schema_is (Update 5 program) set_item_is.0 set_item_is.1 count h.0 in
-    let e = updates gate_schema (λ _ _ _. refl) old new ready.schema_is 5 (item_at 11) refl (statement_of set_item_sql (understood gate_schema set_item_sql)) params count program w in
+    let e = updates gate_schema (λ _ _ _. refl) old new ready.schema_is 5 (item_table_at 11) refl (statement_of set_item_sql (understood gate_schema set_item_sql)) params count program w in
     let db = overlay old.now.trees [] in
     let test = passes (key_is 0 ∷ second_is 2 ∷ []) params in
-    let found : (b : Stored) → Stands old.now.trees b → filter test (old.now.trees 11) ≡ map item_row (filter (is_of x) b.items) =
-    λ b stands. keyed_found item_key item_row (λ y. refl) test (is_of x) (is_of_row x) (old.now.trees 11) b.items stands.item in
+    let found : (b : Stored) → Stands old.now.trees b → filter test (old.now.trees 11) ≡ map item_table_row (filter (is_of x) b.items) =
+    λ b stands. keyed_found item_key item_table_row (λ y. refl) test (is_of x) (is_of_row x) (old.now.trees 11) b.items stands.item in
     let short : (b : Stored) → Stands old.now.trees b → length (filter test (old.now.trees 11)) ≤ 1 =
     λ b stands. rw (found b stands) (simp length-map (one_of x b.items stands.item.in_order)) in
-    let rows : (b : Stored) → Stands old.now.trees b → e.0 ≡ map (out (item_at 11) set_item_terms params old.now.trees) (filter test (old.now.trees 11)) =
+    let rows : (b : Stored) → Stands old.now.trees b → e.0 ≡ map (out (item_table_at 11) set_item_terms params old.now.trees) (filter test (old.now.trees 11)) =
     λ b stands. shows_few 11 (key_is 0 ∷ second_is 2 ∷ []) (col 1 0 ∷ set_item_terms) [] no_limit db params e.0 (short b stands) (e.1.answer Null) in
     let counted : (b : Stored) → Stands old.now.trees b → count ≡ length (filter (is_of x) b.items) =
     λ b stands. e.3 ∙ ap length (rows b stands) ∙ length-map _ _ ∙ ap length (found b stands) ∙ length-map _ _ in (
@@ -158,10 +159,10 @@ sets_item x old new count ready h =
         ready = record { schema_is = e.2.schema_is; inside = h.1.mode };
         named = λ b named. named;
         stands = λ b named stands.
-            let left = e.2.applies.rows ∙ written_update (item_at 11) set_item_terms params old.now.trees e.0 _ (rows b stands) (short b stands) in
+            let left = e.2.applies.rows ∙ written_update (item_table_at 11) set_item_terms params old.now.trees e.0 _ (rows b stands) (short b stands) in
             with_items new.now.trees b _ (others_stay old new _ 11 b e.2 refl refl stands)
-            (subst (λ rs. IsKeyed item_key item_row rs (insert_if (ltb 0 count) item_key (filter (λ y. not (is_of x y)) b.items) x)) (sym left)
-            (rw (counted b stands) (keyed_set item_key item_row (λ y. refl) test (renewed (item_at 11) set_item_terms params old.now.trees) (is_of x) x (is_of_row x) (λ y. set_row x y old.now.trees) (old.now.trees 11) b.items stands.item (one_of x b.items stands.item.in_order))));
+            (subst (λ rs. IsKeyed item_key item_table_row rs (insert_if (ltb 0 count) item_key (filter (λ y. not (is_of x y)) b.items) x)) (sym left)
+            (rw (counted b stands) (keyed_set item_key item_table_row (λ y. refl) test (renewed (item_table_at 11) set_item_terms params old.now.trees) (is_of x) x (is_of_row x) (λ y. set_row x y old.now.trees) (old.now.trees 11) b.items stands.item (one_of x b.items stands.item.in_order))));
       },
       counted,
     )

@@ -5,7 +5,7 @@ use Rattle.sqlite_keyed.specs.Keyed.{insert_by}
 use Rattle.gate_types.specs.Names.{same_name}
 use Rattle.gate_types.specs.Rebase.{with_live}
 use Rattle.gate_types.specs.Rows.{with_outcome, change_build}
-use Rattle.gate_types.specs.Tables.{set_counter}
+use Rattle.gate_types.specs.Tables.{at_stage, change_known, set_counter}
 use Rattle.gate_types.specs.declared.config.Job.{Job}
 use Rattle.gate_types.specs.declared.edits.Counter.{Counter}
 use Rattle.gate_types.specs.declared.edits.Edit.{Edit}
@@ -17,6 +17,7 @@ use Rattle.gate_types.specs.declared.records.Landing.{Landing}
 use Rattle.gate_types.specs.declared.records.Outcome.{Outcome}
 use Rattle.gate_types.specs.declared.records.Plan.{Plan}
 use Rattle.gate_types.specs.declared.records.Report.{Report}
+use Rattle.gate_types.specs.declared.records.Stage.{Stage}
 use Rattle.gate_types.specs.declared.records.Change.{Change}
 use Rattle.gate_types.specs.declared.rows.ChangeRow.{ChangeRow}
 use Rattle.gate_schema.specs.Rows.{Stored, QueueRow, ItemRow, NeedRow, JobRow, QueueLanding, QueueReport, item_key}
@@ -74,6 +75,10 @@ drop_change n b = record b { changes = filter (λ y. not (change_key y == n)) b.
 -- a change added at its number, without its needs
 abbrev pub add_change : ChangeRow → Stored → Stored
 add_change x b = record b { changes = insert_by (λ y. pos (change_key y)) b.changes x }
+
+-- the stage of a change told, which is ready no longer
+abbrev pub set_stage : ℕ → Stage → Stored → Stored
+set_stage n g b = record b { changes = change_known n (at_stage g) b.changes }
 
 -- the needs of a change taken out
 abbrev pub drop_needs : ℕ → Stored → Stored
@@ -153,8 +158,8 @@ abbrev pub change_with : Change → Option ℕ → ChangeRow
 change_with k a = record { change = k; approval = a }
 
 -- a change put, with its needs in place of the old ones
-abbrev pub put_change : Change → Option ℕ → Stored → Stored
-put_change k a b =
+abbrev pub replace_change : Change → Option ℕ → Stored → Stored
+replace_change k a b =
     add_needs (need_rows k.number 0 k.needs)
     (drop_needs k.number (add_change (change_with k a) (drop_change k.number b)))
 
@@ -168,9 +173,11 @@ add_plan p b = mark_fast p.fast p.serial (add_jobs (job_rows p.serial 0 p.jobs) 
 
 -- what the tables hold after an edit
 abbrev pub after_edit : Edit → Stored → Stored
-after_edit (edit.PutChange k a) b = put_change k a b
+after_edit (edit.PutChange k a) b = replace_change k a b
+after_edit (edit.SetStage n g) b = set_stage n g b
 after_edit (edit.PutItem name i) b = add_item (item_in name i) (drop_item_of i.serial name b)
 after_edit (edit.DropItem n) b = drop_plan n (drop_item n b)
+after_edit (edit.LandItem n) b = drop_fast n (drop_item n b)
 after_edit (edit.PutPlan p) b = add_plan p b
 after_edit (edit.PutLanding name n l) b = add_landing (landing_in name n l) b
 after_edit (edit.PutReport name n r) b = add_report (report_in name n r) b

@@ -32,9 +32,10 @@ use Rattle.gate_book_trait.proofs.ReadLemmas.{and_first, and_second}
 
 -- ---- the plans that are left
 
--- an edit drops the item of a serial, and its plan
+-- an edit drops the item of a serial, or lands it
 abbrev pub drops : ℕ → Edit → Bool
 drops n (edit.DropItem m) = n == m
+drops n (edit.LandItem m) = n == m
 drops n _ = false
 
 -- one of some edits does
@@ -65,6 +66,7 @@ plans_left qs name (e ∷ es) ps all =
     one : (d : Edit) → is_own qs name d ≡ true →
         without_plans (is_dropped es) (edited_plans ps d) ≡ without_plans (is_dropped (d ∷ es)) ps
     one (edit.DropItem m) h = twice (λ n. n == m) (is_dropped es) ps
+    one (edit.LandItem m) h = absurd (true≢false (sym h))
     one (edit.PutPlan p) h = absurd (true≢false (sym h))
     one _ h = refl
 
@@ -146,6 +148,7 @@ stays_there at n (e ∷ es) rows d h =
 
     one : (x : Edit) → drops n x ≡ false → is_there n (edited_items at rows x) ≡ true
     one (edit.DropItem m) k = there_without n m rows ∙ (λ z. not (k z) && h z)
+    one (edit.LandItem m) k = there_without n m rows ∙ (λ z. not (k z) && h z)
     one (edit.PutItem queue i) k = by_put i (same_name queue at)
     one _ k = h
 
@@ -157,6 +160,14 @@ puts n _ = false
 abbrev pub PutsNot : ℕ → Edit → Type 0
 PutsNot n e = puts n e ≡ false
 
+still_out : (n m : ℕ) (rows : List ItemRow) → is_there n rows ≡ false →
+    is_there n (filter (λ r. not (r.serial == m)) rows) ≡ false
+still_out n m rows h = there_without n m rows ∙ ap (λ b. not (n == m) && b) h ∙ off (not (n == m))
+  where
+    off : (b : Bool) → b && false ≡ false
+    off true = refl
+    off false = refl
+
 -- a row that isn't there doesn't come where none puts it
 out_stays : (at : List ℕ) (n : ℕ) (e : Edit) (rows : List ItemRow) → PutsNot n e → is_there n rows ≡ false →
     is_there n (edited_items at rows e) ≡ false
@@ -165,11 +176,8 @@ out_stays at n (edit.PutItem queue i) rows k h = by_put (same_name queue at)
     by_put : (t : Bool) → is_there n (cond t (put_by serial_of i rows) rows) ≡ false
     by_put true = there_put n i rows ∙ (λ z. k z || h z)
     by_put false = h
-out_stays at n (edit.DropItem m) rows k h = there_without n m rows ∙ ap (λ b. not (n == m) && b) h ∙ off (not (n == m))
-  where
-    off : (b : Bool) → b && false ≡ false
-    off true = refl
-    off false = refl
+out_stays at n (edit.DropItem m) rows k h = still_out n m rows h
+out_stays at n (edit.LandItem m) rows k h = still_out n m rows h
 out_stays at n _ rows k h = h
 
 all_out : (at : List ℕ) (n : ℕ) (es : List Edit) (rows : List ItemRow) → All (PutsNot n) es →
@@ -189,7 +197,9 @@ dropped_out at n (e ∷ es) rows all d =
   where
     out : (x : Edit) → drops n x ≡ true → is_there n (edited_items at rows x) ≡ false
     out (edit.DropItem m) k = there_without n m rows ∙ ap (λ b. not b && is_there n rows) k
+    out (edit.LandItem m) k = there_without n m rows ∙ ap (λ b. not b && is_there n rows) k
     out (edit.PutChange j a) k = absurd (true≢false (sym k))
+    out (edit.SetStage m g) k = absurd (true≢false (sym k))
     out (edit.PutItem queue i) k = absurd (true≢false (sym k))
     out (edit.PutPlan p) k = absurd (true≢false (sym k))
     out (edit.PutLanding queue m l) k = absurd (true≢false (sym k))

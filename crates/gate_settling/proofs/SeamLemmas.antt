@@ -81,6 +81,7 @@ leave_it f own y h (e ∷ es) all =
 changes_stay : (qs : List Queue) (name : List ℕ) (rows : _) (e : Edit) → is_own qs name e ≡ true →
     edited_changes rows e ≡ rows
 changes_stay qs name rows (edit.PutChange k a) h = absurd (true≢false (sym h))
+changes_stay qs name rows (edit.SetStage n g) h = absurd (true≢false (sym h))
 changes_stay qs name rows _ h = refl
 
 counters_stay : (qs : List Queue) (name : List ℕ) (d : _) (e : Edit) → is_own qs name e ≡ true →
@@ -149,7 +150,9 @@ other_stays o qs name cols apart (edit.DropItem n) h =
 other_stays o qs name cols apart (edit.PutReport queue n r) h = rw (off queue name o.name h apart) refl
 other_stays o qs name cols apart (edit.StopBuild n) h = refl
 other_stays o qs name cols apart (edit.SetWindow queue w) h = rw (off queue name o.name h apart) refl
+other_stays o qs name cols apart (edit.LandItem n) h = absurd (true≢false (sym h))
 other_stays o qs name cols apart (edit.PutChange k a) h = absurd (true≢false (sym h))
+other_stays o qs name cols apart (edit.SetStage n g) h = absurd (true≢false (sym h))
 other_stays o qs name cols apart (edit.PutPlan p) h = absurd (true≢false (sym h))
 other_stays o qs name cols apart (edit.PutLanding queue n l) h = absurd (true≢false (sym h))
 other_stays o qs name cols apart (edit.PutBuild b) h = absurd (true≢false (sym h))
@@ -168,7 +171,9 @@ own_tail o qs name es h = weaker es h
     fewer (edit.PutReport queue n r) k = k
     fewer (edit.StopBuild n) k = k
     fewer (edit.SetWindow queue w) k = k
+    fewer (edit.LandItem n) k = absurd (true≢false (sym k))
     fewer (edit.PutChange j a) k = absurd (true≢false (sym k))
+    fewer (edit.SetStage n g) k = absurd (true≢false (sym k))
     fewer (edit.PutPlan p) k = absurd (true≢false (sym k))
     fewer (edit.PutLanding queue n l) k = absurd (true≢false (sym k))
     fewer (edit.PutBuild b) k = absurd (true≢false (sym k))

@@ -2,6 +2,7 @@
 ghost use Rattle.std.specs.Prelude.{◌≡◌, ◌<◌, ◌+◌, ◌∷◌, [], length, nat_lt, filter, option_copied, IfOk, OnOk, IfErr};
 ghost use Rattle.std.specs.Prelude.{IfSome, IfNone};
 ghost use Rattle.gate_book_trait.specs.Kept.{OfHeld, IsKept};
+ghost use Rattle.gate_book_trait.specs.Reading.{IsRead};
 ghost use Rattle.gate_book_trait.specs.Reads as read;
 ghost use Rattle.gate_book_trait.specs.Faults.{MayAnswer};
 ghost use Rattle.gate_settling.specs.Rows as rows;
@@ -91,13 +92,11 @@ impl Needing {
         gone: &[ChangeNo],
         above: u64,
     ) -> Result<(), BookFault>
-        ensures rows { OfHeld B.IsTrusted B.Holds book.old book.new (λ c x.
+        ensures reads { IsRead B.IsTrusted B.Holds B.LeavesOneOf (MayAnswer B.MayFault) book.old book.new (λ c x.
             rows.AreKept x.state gone.now above (read.items_in c x.state queue.now) self.old.rows.items self.old.asked →
             OnOk result (self.new.rows.items ≡
-            rows.needing_any x.state gone.now above (read.items_in c x.state queue.now))) }
+            rows.needing_any x.state gone.now above (read.items_in c x.state queue.now))) result }
         ensures asked { OnOk result (self.new.asked ≡ length gone.now) }
-        ensures kept { IsKept B.IsTrusted B.Holds B.LeavesOneOf book.old book.new }
-        ensures fault { IfErr result (MayAnswer B.MayFault) }
     {
         keep_above(&mut self.rows, above);
         for index in self.asked..gone.len() {

@@ -2,6 +2,7 @@
 ghost use Rattle.std.specs.Prelude.{◌≡◌, ◌++◌, ◌∷◌, [], IfOk, map, IfErr};
 ghost use Rattle.gate_types.specs.State.{known_change, plan_of};
 ghost use Rattle.gate_book_trait.specs.Kept.{OfHeld, IsKept};
+ghost use Rattle.gate_book_trait.specs.Reading.{IsRead};
 ghost use Rattle.gate_book_trait.specs.Reads as read;
 ghost use Rattle.gate_settling.specs.Rows as rows;
 ghost use Rattle.gate_book_trait.specs.Faults.{MayAnswer};
@@ -66,10 +67,8 @@ fn need_now<B: Book>(
     touched: &TouchedItem,
     change: ChangeNo,
 ) -> Result<SeenNeed, BookFault>
-    ensures need { OfHeld B.IsTrusted B.Holds book.old book.new (λ c x.
-        IfOk result (λ need. need ≡ rows.need_now c x.state touched.now change)) }
-    ensures kept { IsKept B.IsTrusted B.Holds B.LeavesOneOf book.old book.new }
-    ensures fault { IfErr result (MayAnswer B.MayFault) }
+    ensures { IsRead B.IsTrusted B.Holds B.LeavesOneOf (MayAnswer B.MayFault) book.old book.new (λ c x.
+        IfOk result (λ need. need ≡ rows.need_now c x.state touched.now change)) result }
 {
     let known = book.change(change)?;
     let queued = book.queued(change)?;
@@ -88,10 +87,8 @@ fn needs_now<B: Book>(
     touched: &TouchedItem,
     changes: &[ChangeNo],
 ) -> Result<Vec<SeenNeed>, BookFault>
-    ensures needs { OfHeld B.IsTrusted B.Holds book.old book.new (λ c x.
-        IfOk result (λ needs. needs.items ≡ map (rows.need_now c x.state touched.now) changes.now)) }
-    ensures kept { IsKept B.IsTrusted B.Holds B.LeavesOneOf book.old book.new }
-    ensures fault { IfErr result (MayAnswer B.MayFault) }
+    ensures { IsRead B.IsTrusted B.Holds B.LeavesOneOf (MayAnswer B.MayFault) book.old book.new (λ c x.
+        IfOk result (λ needs. needs.items ≡ map (rows.need_now c x.state touched.now) changes.now)) result }
 {
     let mut needs = Vec::new(alloc);
     for change in changes {
@@ -157,10 +154,8 @@ fn builds_now<B: Book>(
     event: Event,
     serial: Serial,
 ) -> Result<Vec<Build>, BookFault>
-    ensures builds { OfHeld B.IsTrusted B.Holds book.old book.new (λ c x.
-        IfOk result (λ builds. builds.items ≡ map (rows.build_now event) (read.live_builds x.state serial))) }
-    ensures kept { IsKept B.IsTrusted B.Holds B.LeavesOneOf book.old book.new }
-    ensures fault { IfErr result (MayAnswer B.MayFault) }
+    ensures { IsRead B.IsTrusted B.Holds B.LeavesOneOf (MayAnswer B.MayFault) book.old book.new (λ c x.
+        IfOk result (λ builds. builds.items ≡ map (rows.build_now event) (read.live_builds x.state serial))) result }
 {
     let live = book.live_builds(serial)?;
     Ok(builds_after(alloc, event, live.as_slice())?)

@@ -1,5 +1,5 @@
 //! The edits that settle the queue of a touched item.
-ghost use Rattle.std.specs.Prelude.{◌≡◌, ◌++◌, List, IfOk, false, IfErr};
+ghost use Rattle.std.specs.Prelude.{◌≡◌, ◌++◌, List, IfOk, false};
 ghost use Rattle.gate_types.specs.State.{State};
 ghost use Rattle.gate_types.specs.Step.{accepted, raw_step};
 ghost use Rattle.gate_types.specs.declared.deliveries.Delivery.{Delivery};
@@ -7,7 +7,7 @@ ghost use Rattle.gate_types.specs.declared.deliveries.Reply.{Reply};
 ghost use Rattle.gate_types.specs.declared.edits.Edit.{Edit as EditOf};
 ghost use Rattle.gate_types.specs.Tables.{Leads};
 ghost use Rattle.gate_laws.specs.Touch.{is_stale};
-ghost use Rattle.gate_book_trait.specs.Kept.{OfHeldUnder, IsKept};
+ghost use Rattle.gate_book_trait.specs.Reading.{IsReadUnder};
 ghost use Rattle.gate_reads.specs.Moves.{Moves, in_state, swept};
 ghost use Rattle.gate_reads.specs.Touches.{Touches};
 ghost use Rattle.gate_settling.specs.Touching.{Touching, AreToldOf};
@@ -29,12 +29,11 @@ pub fn settling<B: Book>(
     config: &Config,
     touched: &Option<TouchedItem>,
 ) -> Result<Vec<Edit>, BookFault>
-    ensures settled { OfHeldUnder B.IsTrusted B.Holds book.old book.new config.now (λ x. (d : Delivery) (r : Reply)
+    ensures { IsReadUnder B.IsTrusted B.Holds B.LeavesOneOf (MayAnswer B.MayFault) book.old book.new config.now (λ x.
+        (d : Delivery) (r : Reply)
         (t : State) (raw : List EditOf) → raw_step config.now x.state d ≡ accepted r t → is_stale r ≡ false →
         Touches config.now x.state d touched.now → Moves x raw t →
-        IfOk result (λ edits. Leads config.now x (raw ++ edits.items) (in_state x (swept config.now t)))) }
-    ensures kept { IsKept B.IsTrusted B.Holds B.LeavesOneOf book.old book.new }
-    ensures fault { IfErr result (MayAnswer B.MayFault) }
+        IfOk result (λ edits. Leads config.now x (raw ++ edits.items) (in_state x (swept config.now t)))) result }
 {
     config.show_sound();
     match touched {
@@ -50,10 +49,8 @@ fn edits_of_walk<B: Book>(
     config: &Config,
     touched: &TouchedItem,
 ) -> Result<Vec<Edit>, BookFault>
-    ensures told { OfHeldUnder B.IsTrusted B.Holds book.old book.new config.now (λ x.
-        (h : Touching config.now x touched.now) → IfOk result (λ edits. AreToldOf h edits.items)) }
-    ensures kept { IsKept B.IsTrusted B.Holds B.LeavesOneOf book.old book.new }
-    ensures fault { IfErr result (MayAnswer B.MayFault) }
+    ensures { IsReadUnder B.IsTrusted B.Holds B.LeavesOneOf (MayAnswer B.MayFault) book.old book.new config.now (λ x.
+        (h : Touching config.now x touched.now) → IfOk result (λ edits. AreToldOf h edits.items)) result }
 {
     match begun(alloc, config, touched)? {
         Some(walk) => Ok(walked(alloc, book, config, touched, walk)?.into_edits()),

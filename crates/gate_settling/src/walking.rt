@@ -1,8 +1,8 @@
 //! The visits of a walk, one after another.
-ghost use Rattle.std.specs.Prelude.{◌≡◌, Some, List, IfOk, IfErr};
+ghost use Rattle.std.specs.Prelude.{◌≡◌, Some, List, IfOk};
 ghost use Rattle.gate_walk.specs.Walk as walks;
 ghost use Rattle.gate_walk.specs.UnderWay.{HasVisited, GoesOn, Starts, row_wanted};
-ghost use Rattle.gate_book_trait.specs.Kept.{OfHeldUnder, IsKept};
+ghost use Rattle.gate_book_trait.specs.Reading.{IsReadUnder};
 ghost use Rattle.gate_settling.specs.Rows as rows;
 ghost use Rattle.gate_settling.specs.Touching.{Touching, delivered, sees, IsWalked};
 ghost use Rattle.gate_book_trait.specs.Faults.{MayAnswer};
@@ -26,13 +26,11 @@ fn visited<B: Book>(
     walk: &mut Walk,
     row: Item,
 ) -> Result<Next, BookFault>
-    ensures visited { OfHeldUnder B.IsTrusted B.Holds book.old book.new config.now (λ x.
-        (h : Touching config.now x touched.now) (vs : List walks.Seen) → HasVisited (delivered h) walk.old vs →
+    ensures reads { IsReadUnder B.IsTrusted B.Holds B.LeavesOneOf (MayAnswer B.MayFault) book.old book.new config.now
+        (λ x. (h : Touching config.now x touched.now) (vs : List walks.Seen) → HasVisited (delivered h) walk.old vs →
         row_wanted (delivered h) vs ≡ Some (sees h row) →
-        IfOk result (λ next. GoesOn (delivered h) walk.old walk.new (sees h row) vs next)) }
+        IfOk result (λ next. GoesOn (delivered h) walk.old walk.new (sees h row) vs next)) result }
     ensures from { IfOk result (λ next. rows.IsFrom row.serial next) }
-    ensures kept { IsKept B.IsTrusted B.Holds B.LeavesOneOf book.old book.new }
-    ensures fault { IfErr result (MayAnswer B.MayFault) }
 {
     let facts = facts_now(alloc, book, touched, row.change, row.serial)?;
     let seen = Seen {
@@ -53,11 +51,9 @@ pub(crate) fn walked<B: Book>(
     touched: &TouchedItem,
     begun: Walk,
 ) -> Result<Walk, BookFault>
-    ensures walked { OfHeldUnder B.IsTrusted B.Holds book.old book.new config.now (λ x.
+    ensures { IsReadUnder B.IsTrusted B.Holds B.LeavesOneOf (MayAnswer B.MayFault) book.old book.new config.now (λ x.
         (h : Touching config.now x touched.now) → Starts (delivered h) begun →
-        IfOk result (λ walk. IsWalked h walk)) }
-    ensures kept { IsKept B.IsTrusted B.Holds B.LeavesOneOf book.old book.new }
-    ensures fault { IfErr result (MayAnswer B.MayFault) }
+        IfOk result (λ walk. IsWalked h walk)) result }
 {
     let mut walk = begun;
     let mut needing = Needing::none(alloc);

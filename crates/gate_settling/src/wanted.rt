@@ -1,6 +1,7 @@
 //! The row that a walk reads next.
 ghost use Rattle.std.specs.Prelude.{◌≡◌, ◌≤◌, ℕ, IfOk, IfSome, OnOk, IfErr};
 ghost use Rattle.gate_book_trait.specs.Kept.{OfHeld, IsKept};
+ghost use Rattle.gate_book_trait.specs.Reading.{IsRead};
 ghost use Rattle.gate_book_trait.specs.Reads as read;
 ghost use Rattle.gate_settling.specs.Rows as rows;
 ghost use Rattle.gate_settling.specs.Touching.{Touching};
@@ -21,12 +22,10 @@ pub(crate) fn first_wanted<B: Book>(
     book: &mut B,
     touched: &TouchedItem,
 ) -> Result<Option<Item>, BookFault>
-    ensures row { OfHeld B.IsTrusted B.Holds book.old book.new (λ c x. (h : Touching c x touched.now) →
-        IfOk result (λ row.
-        row ≡ read.first_above (rows.first_behind touched.now) (read.items_in c x.state touched.now.queue))) }
+    ensures reads { IsRead B.IsTrusted B.Holds B.LeavesOneOf (MayAnswer B.MayFault) book.old book.new (λ c x.
+        (h : Touching c x touched.now) → IfOk result (λ row.
+        row ≡ read.first_above (rows.first_behind touched.now) (read.items_in c x.state touched.now.queue))) result }
     ensures rises { IfOk result (λ row. IfSome row (λ r. touched.now.item.serial ≤ r.serial)) }
-    ensures kept { IsKept B.IsTrusted B.Holds B.LeavesOneOf book.old book.new }
-    ensures fault { IfErr result (MayAnswer B.MayFault) }
 {
     if !is_out(touched.event) {
         return Ok(Some(touched.item));

@@ -9,4 +9,5 @@ pub mod ReadingLemmas
 pub mod DigitLemmas
 pub mod NameLemmas
 pub mod PutLemmas
+pub mod ChangedLemmas
 pub mod DistinctLemmas

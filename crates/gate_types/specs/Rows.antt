@@ -67,6 +67,7 @@ change_build n f builds = map (λ b. if b.number == n then f b else b) builds
 abbrev pub edited_items : List ℕ → List ItemRow → Edit → List ItemRow
 edited_items name items (edit.PutItem queue i) = if same_name queue name then put_by (λ j. j.serial) i items else items
 edited_items name items (edit.DropItem serial) = filter (λ j. not (j.serial == serial)) items
+edited_items name items (edit.LandItem serial) = filter (λ j. not (j.serial == serial)) items
 edited_items name items _ = items
 
 -- the builds' rows

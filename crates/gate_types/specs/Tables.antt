@@ -1,11 +1,12 @@
 -- What the tables hold of a whole content, and what edits make of that.
 use Rattle.std.specs.Prelude.{ℕ, false, not, ◌==◌, ◌≡◌, if◌then◌else◌, suc, List, [], ◌∷◌, ◌++◌, map, filter, fold}
-use Rattle.std.specs.Prelude.{Option, option_map, find}
+use Rattle.std.specs.Prelude.{Option, None, option_map, find}
 use Rattle.gate_types.specs.declared.records.Change.{Change}
 use Rattle.gate_types.specs.declared.records.Item.{Item as ItemRow}
 use Rattle.gate_types.specs.declared.records.Landing.{Landing}
 use Rattle.gate_types.specs.declared.records.Plan.{Plan}
 use Rattle.gate_types.specs.declared.records.Ready.{Ready}
+use Rattle.gate_types.specs.declared.records.Stage.{Stage}
 use Rattle.gate_types.specs.declared.records.Build.{Build}
 use Rattle.gate_types.specs.declared.records.Kept.{Kept}
 use Rattle.gate_types.specs.declared.rows.ChangeRow.{ChangeRow}
@@ -83,10 +84,19 @@ tables c x = tables_with (item_rows c x.state) x
 
 -- ---- what edits make of tables
 
+-- a change at another stage, ready no longer
+abbrev pub at_stage : Stage → ChangeRow → ChangeRow
+at_stage stage r = record { change = record r.change { stage = stage }; approval = None }
+
+-- the row of the change of this number changed
+abbrev pub change_known : ℕ → (ChangeRow → ChangeRow) → List ChangeRow → List ChangeRow
+change_known n f rows = map (λ r. if r.change.number == n then f r else r) rows
+
 -- the changes' rows after an edit
 abbrev pub edited_changes : List ChangeRow → Edit → List ChangeRow
 edited_changes rows (edit.PutChange k approval) =
     put_by (λ r. r.change.number) (record { change = k; approval = approval }) rows
+edited_changes rows (edit.SetStage n stage) = change_known n (at_stage stage) rows
 edited_changes rows _ = rows
 
 -- the landings' rows
@@ -105,10 +115,19 @@ edited_queue e q = record {
   reports = edited_reports q.name q.reports e;
 }
 
--- the plans: that of an item goes with its row
+-- a plan without its mark
+abbrev pub unmarked : Plan → Plan
+unmarked p = record p { fast = false }
+
+-- the plan of this serial without its mark
+abbrev pub unmark : ℕ → List Plan → List Plan
+unmark serial rows = map (λ p. if p.serial == serial then unmarked p else p) rows
+
+-- the plans: that of an item goes with its row, or keeps its jobs where the item lands
 abbrev pub edited_plans : List Plan → Edit → List Plan
 edited_plans rows (edit.PutPlan p) = put_by (λ q. q.serial) p rows
 edited_plans rows (edit.DropItem serial) = filter (λ p. not (p.serial == serial)) rows
+edited_plans rows (edit.LandItem serial) = unmark serial rows
 edited_plans rows _ = rows
 
 -- the builds' rows

@@ -1,7 +1,7 @@
 //! Edits: each puts, changes or drops one keyed row of the gate's tables.
 use crate::names::{Name, NoMemory};
-use crate::numbers::{BuildNo, Serial};
-use crate::records::{Build, Change, Item, Kept, Landing, Outcome, Plan, Report};
+use crate::numbers::{BuildNo, ChangeNo, Serial};
+use crate::records::{Build, Change, Item, Kept, Landing, Outcome, Plan, Report, Stage};
 
 /// One of the three counters.
 #[derive(Clone, Copy, PartialEq, Eq)]
@@ -19,12 +19,20 @@ pub enum Edit {
         change: Change,
         approval: Option<u64>,
     },
+    /// The change's stage; it is ready no longer, and its other columns and its needs stay. Where no such
+    /// change stands, nothing is set.
+    SetStage {
+        change: ChangeNo,
+        stage: Stage,
+    },
     PutItem {
         queue: Name,
         item: Item,
     },
     /// The item's row, and the plan under its serial.
     DropItem(Serial),
+    /// The item's row, and the mark of its plan; its jobs stay, under its serial.
+    LandItem(Serial),
     /// What an item is admitted with, or what a landing keeps of that.
     PutPlan(Plan),
     /// The n-th landing of its queue, from 1.
@@ -69,11 +77,16 @@ impl Edit {
                 change: change.copy()?,
                 approval: *approval,
             }),
+            Edit::SetStage { change, stage } => Ok(Edit::SetStage {
+                change: *change,
+                stage: *stage,
+            }),
             Edit::PutItem { queue, item } => Ok(Edit::PutItem {
                 queue: queue.copy()?,
                 item: *item,
             }),
             Edit::DropItem(serial) => Ok(Edit::DropItem(*serial)),
+            Edit::LandItem(serial) => Ok(Edit::LandItem(*serial)),
             Edit::PutPlan(plan) => Ok(Edit::PutPlan(plan.copy()?)),
             Edit::PutLanding {
                 queue,

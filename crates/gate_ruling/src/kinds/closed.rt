@@ -1,12 +1,12 @@
 //! `closed`: a change is given up.
-ghost use Rattle.std.specs.Prelude.{◌≡◌, if◌then◌else◌, is_some, IfOk, IfErr};
+ghost use Rattle.std.specs.Prelude.{◌≡◌, if◌then◌else◌, is_some, IfOk};
 ghost use Rattle.gate_types.specs.declared.deliveries.Reply.TheVariants as reply;
 ghost use Rattle.gate_types.specs.declared.deliveries.Delivery.TheVariants as delivery;
 ghost use Rattle.gate_book_trait.specs.Faults.{MayAnswer};
-ghost use Rattle.gate_book_trait.specs.Kept.{OfHeldUnder, IsKept};
+ghost use Rattle.gate_book_trait.specs.Reading.{IsReadUnder};
 ghost use Rattle.gate_reads.specs.Raw.{IsRaw};
 
-use crate::changing::{is_open, put_at};
+use crate::changing::{is_open, set_at};
 use crate::guards::latest;
 use crate::leaving::{Left, give_up_place, is_submitting};
 use gate_book_trait::{Book, BookFault};
@@ -36,10 +36,8 @@ pub(crate) fn closed<B: Book>(
     change: ChangeNo,
     revision: Revision,
 ) -> Result<Raw, BookFault>
-    ensures raw { OfHeldUnder B.IsTrusted B.Holds book.old book.new config.now (λ x.
-        IfOk result (IsRaw config.now x (delivery.Closed change revision))) }
-    ensures kept { IsKept B.IsTrusted B.Holds B.LeavesOneOf book.old book.new }
-    ensures fault { IfErr result (MayAnswer B.MayFault) }
+    ensures { IsReadUnder B.IsTrusted B.Holds B.LeavesOneOf (MayAnswer B.MayFault) book.old book.new config.now (λ x.
+        IfOk result (IsRaw config.now x (delivery.Closed change revision))) result }
 {
     let known = match latest(book, change, revision)? {
         Ok(known) => known,
@@ -54,7 +52,7 @@ pub(crate) fn closed<B: Book>(
     }
     let left = give_up_place(alloc, book, config, place, Verdict::Closed)?;
     let reply = removed_or_recorded(&left);
-    let edits = put_at(left.edits, known, Stage::Closed)?;
+    let edits = set_at(left.edits, &known, Stage::Closed)?;
     Ok(Raw::Moved(Moved {
         reply: PendingReply::Now(reply),
         edits,

@@ -1,16 +1,17 @@
 //! `landed`: the forge landed an order.
-ghost use Rattle.std.specs.Prelude.{◌≡◌, ◌++◌, false, IfOk, IfErr};
+ghost use Rattle.std.specs.Prelude.{◌≡◌, ◌++◌, IfOk, IfErr};
 ghost use Rattle.gate_types.specs.declared.deliveries.Delivery.TheVariants as delivery;
 ghost use Rattle.gate_book_trait.specs.Faults.{MayAnswer};
-ghost use Rattle.gate_book_trait.specs.Kept.{OfHeldUnder, IsKept};
+ghost use Rattle.gate_book_trait.specs.Kept.{OfHeldUnder};
+ghost use Rattle.gate_book_trait.specs.Reading.{IsReadUnder};
 ghost use Rattle.gate_reads.specs.Raw.{IsRaw};
 ghost use Rattle.gate_ruling.specs.Landing.{landing_edits};
 ghost use Rattle.gate_ruling.specs.Faults.{MayRule};
 
-use crate::changing::put_at;
+use crate::changing::set_at;
 use crate::edits::with_window;
 use crate::guards::ordered;
-use crate::leaving::{leaving, touched};
+use crate::leaving::{landing, touched};
 use gate_book_trait::{Book, BookFault, QueuedItem};
 use gate_reads::{Event, Moved, PendingReply, Raw, ShownItem, figures_of, window_now};
 use gate_types::config::Config;
@@ -19,7 +20,7 @@ use gate_types::edits::Edit;
 use gate_types::lists::with_one;
 use gate_types::names::NoMemory;
 use gate_types::numbers::Serial;
-use gate_types::records::{Landing, Plan, Stage, Verdict};
+use gate_types::records::{Landing, Stage, Verdict};
 use std::alloc::Global;
 
 /// The item's landing at a place of its queue, and the window that follows the old one.
@@ -47,17 +48,6 @@ fn with_landing(
     with_window(with_one(edits, landed)?, &queued.queue, old, window)
 }
 
-/// What a landing of this serial keeps of a plan: its jobs.
-fn landed_plan(serial: Serial, plan: Plan) -> Plan
-    ensures { result ≡ record { serial = serial; jobs = plan.jobs; fast = false } }
-{
-    Plan {
-        serial,
-        fast: false,
-        ..plan
-    }
-}
-
 /// The item of a shown order leaves its queue as the last of the landings, which keeps its jobs, and the window grows.
 pub(crate) fn landed<B: Book>(
     alloc: Global,
@@ -65,10 +55,8 @@ pub(crate) fn landed<B: Book>(
     config: &Config,
     order: Serial,
 ) -> Result<Raw, BookFault>
-    ensures raw { OfHeldUnder B.IsTrusted B.Holds book.old book.new config.now (λ x.
-        IfOk result (IsRaw config.now x (delivery.Landed order))) }
-    ensures kept { IsKept B.IsTrusted B.Holds B.LeavesOneOf book.old book.new }
-    ensures fault { IfErr result (MayRule B.MayFault) }
+    ensures reads { IsReadUnder B.IsTrusted B.Holds B.LeavesOneOf (MayRule B.MayFault) book.old book.new config.now
+        (λ x. IfOk result (IsRaw config.now x (delivery.Landed order))) result }
     ensures undamaged { OfHeldUnder B.IsTrusted B.Holds book.old book.new config.now (λ x.
         IfErr result (MayAnswer B.MayFault)) }
 {
@@ -77,11 +65,7 @@ pub(crate) fn landed<B: Book>(
         Ok(shown) => shown,
         Err(raw) => return Ok(raw),
     };
-    let ShownItem {
-        queued,
-        plan,
-        builds,
-    } = shown;
+    let ShownItem { queued, builds, .. } = shown;
     let item = queued.item;
     let figures = figures_of(book, &queued.queue)?;
     let Some(window) = figures.window else {
@@ -89,7 +73,7 @@ pub(crate) fn landed<B: Book>(
     };
     let place = book.landing_count(&queued.queue)?.saturating_add(1);
     let verdict = Verdict::Landed(place);
-    let edits = leaving(
+    let edits = landing(
         alloc,
         config,
         &queued,
@@ -100,12 +84,10 @@ pub(crate) fn landed<B: Book>(
     let settings = config.queue(queued.queue.as_str());
     let resized = window_now(Event::Landed, settings, window);
     let edits = with_landing(edits, &queued, place, window, resized)?;
-    let plan = landed_plan(item.serial, plan);
-    let edits = with_one(edits, Edit::PutPlan(plan))?;
     let Some(known) = book.change(item.change)? else {
         return Err(BookFault::Damaged);
     };
-    let edits = put_at(edits, known, Stage::Landed)?;
+    let edits = set_at(edits, &known, Stage::Landed)?;
     Ok(Raw::Moved(Moved {
         reply: PendingReply::Now(Reply::Landed(place)),
         edits,

@@ -2,7 +2,8 @@
 ghost use Rattle.std.specs.Prelude.{IfOk, IfErr};
 ghost use Rattle.gate_types.specs.declared.deliveries.Delivery.TheVariants as delivery;
 ghost use Rattle.gate_book_trait.specs.Faults.{MayAnswer};
-ghost use Rattle.gate_book_trait.specs.Kept.{OfHeldUnder, IsKept};
+ghost use Rattle.gate_book_trait.specs.Kept.{OfHeldUnder};
+ghost use Rattle.gate_book_trait.specs.Reading.{IsReadUnder};
 ghost use Rattle.gate_reads.specs.Raw.{IsRaw};
 ghost use Rattle.gate_ruling.specs.Faults.{MayRule};
 
@@ -24,10 +25,8 @@ pub(crate) fn refused<B: Book>(
     config: &Config,
     order: Serial,
 ) -> Result<Raw, BookFault>
-    ensures raw { OfHeldUnder B.IsTrusted B.Holds book.old book.new config.now (λ x.
-        IfOk result (IsRaw config.now x (delivery.Refused order))) }
-    ensures kept { IsKept B.IsTrusted B.Holds B.LeavesOneOf book.old book.new }
-    ensures fault { IfErr result (MayRule B.MayFault) }
+    ensures reads { IsReadUnder B.IsTrusted B.Holds B.LeavesOneOf (MayRule B.MayFault) book.old book.new config.now
+        (λ x. IfOk result (IsRaw config.now x (delivery.Refused order))) result }
     ensures undamaged { OfHeldUnder B.IsTrusted B.Holds book.old book.new config.now (λ x.
         IfErr result (MayAnswer B.MayFault)) }
 {

@@ -1,12 +1,12 @@
 //! `revision`: a change at a new revision.
-ghost use Rattle.std.specs.Prelude.{◌≡◌, ◌||◌, not, false, nat_le, IfOk, IfErr};
+ghost use Rattle.std.specs.Prelude.{◌≡◌, ◌||◌, not, false, nat_le, IfOk};
 ghost use Rattle.std.specs.Option.{option_map_or};
 ghost use Rattle.gate_types.specs.declared.deliveries.Delivery.TheVariants as delivery;
 ghost use Rattle.gate_types.specs.Names.{same_name};
 ghost use Rattle.gate_types.specs.State.{is_landed};
 ghost use Rattle.gate_types.specs.Step.{has_project};
 ghost use Rattle.gate_book_trait.specs.Faults.{MayAnswer};
-ghost use Rattle.gate_book_trait.specs.Kept.{OfHeldUnder, IsKept};
+ghost use Rattle.gate_book_trait.specs.Reading.{IsReadUnder};
 ghost use Rattle.gate_reads.specs.Raw.{IsRaw};
 
 use crate::changing::put_anew;
@@ -61,10 +61,8 @@ pub(crate) fn revision<B: Book>(
     revision: Revision,
     message: &Message,
 ) -> Result<Raw, BookFault>
-    ensures raw { OfHeldUnder B.IsTrusted B.Holds book.old book.new config.now (λ x.
-        IfOk result (IsRaw config.now x (delivery.Revision change project.now revision message.now))) }
-    ensures kept { IsKept B.IsTrusted B.Holds B.LeavesOneOf book.old book.new }
-    ensures fault { IfErr result (MayAnswer B.MayFault) }
+    ensures { IsReadUnder B.IsTrusted B.Holds B.LeavesOneOf (MayAnswer B.MayFault) book.old book.new config.now (λ x.
+        IfOk result (IsRaw config.now x (delivery.Revision change project.now revision message.now))) result }
 {
     if !has_project(config, project) {
         return Ok(Raw::Refused(Refusal::UnknownProject));

@@ -1,11 +1,11 @@
 //! `take`: a worker asks for a build.
-ghost use Rattle.std.specs.Prelude.{◌≡◌, ◌+◌, ◌-◌, ◌∷◌, [], min, Some, IfOk, IfErr};
+ghost use Rattle.std.specs.Prelude.{◌≡◌, ◌+◌, ◌-◌, ◌∷◌, [], min, Some, IfOk};
 ghost use Rattle.gate_types.specs.Counters.{last_number};
 ghost use Rattle.gate_types.specs.declared.deliveries.Delivery.TheVariants as delivery;
 ghost use Rattle.gate_types.specs.declared.edits.Edit.TheVariants as edit;
 ghost use Rattle.gate_types.specs.declared.edits.Counter.TheVariants as counter;
 ghost use Rattle.gate_book_trait.specs.Faults.{MayAnswer};
-ghost use Rattle.gate_book_trait.specs.Kept.{OfHeldUnder, IsKept};
+ghost use Rattle.gate_book_trait.specs.Reading.{IsReadUnder};
 ghost use Rattle.gate_reads.specs.Raw.{IsRaw};
 
 use gate_book_trait::{Book, BookFault};
@@ -47,10 +47,8 @@ pub(crate) fn take<B: Book>(
     config: &Config,
     worker: &PathName,
 ) -> Result<Raw, BookFault>
-    ensures raw { OfHeldUnder B.IsTrusted B.Holds book.old book.new config.now (λ x.
-        IfOk result (IsRaw config.now x (delivery.Take worker.now))) }
-    ensures kept { IsKept B.IsTrusted B.Holds B.LeavesOneOf book.old book.new }
-    ensures fault { IfErr result (MayAnswer B.MayFault) }
+    ensures { IsReadUnder B.IsTrusted B.Holds B.LeavesOneOf (MayAnswer B.MayFault) book.old book.new config.now (λ x.
+        IfOk result (IsRaw config.now x (delivery.Take worker.now))) result }
 {
     let drawn = book.counters()?.build;
     let Some(number) = number_after(drawn) else {

@@ -1,11 +1,11 @@
 //! `withdrawn`: a change gives up its place.
-ghost use Rattle.std.specs.Prelude.{IfOk, IfErr};
+ghost use Rattle.std.specs.Prelude.{IfOk};
 ghost use Rattle.gate_types.specs.declared.deliveries.Delivery.TheVariants as delivery;
 ghost use Rattle.gate_book_trait.specs.Faults.{MayAnswer};
-ghost use Rattle.gate_book_trait.specs.Kept.{OfHeldUnder, IsKept};
+ghost use Rattle.gate_book_trait.specs.Reading.{IsReadUnder};
 ghost use Rattle.gate_reads.specs.Raw.{IsRaw};
 
-use crate::changing::put_anew;
+use crate::changing::set_at;
 use crate::guards::latest;
 use crate::leaving::leave_queue;
 use gate_book_trait::{Book, BookFault};
@@ -24,10 +24,8 @@ pub(crate) fn withdrawn<B: Book>(
     change: ChangeNo,
     revision: Revision,
 ) -> Result<Raw, BookFault>
-    ensures raw { OfHeldUnder B.IsTrusted B.Holds book.old book.new config.now (λ x.
-        IfOk result (IsRaw config.now x (delivery.Withdrawn change revision))) }
-    ensures kept { IsKept B.IsTrusted B.Holds B.LeavesOneOf book.old book.new }
-    ensures fault { IfErr result (MayAnswer B.MayFault) }
+    ensures { IsReadUnder B.IsTrusted B.Holds B.LeavesOneOf (MayAnswer B.MayFault) book.old book.new config.now (λ x.
+        IfOk result (IsRaw config.now x (delivery.Withdrawn change revision))) result }
 {
     let known = match latest(book, change, revision)? {
         Ok(known) => known,
@@ -46,7 +44,7 @@ pub(crate) fn withdrawn<B: Book>(
         QueuePlace::Outside => match book.approval(change)? {
             Some(_) => Ok(Raw::Moved(Moved {
                 reply: PendingReply::Now(Reply::Recorded),
-                edits: put_anew(Vec::new(alloc), known)?,
+                edits: set_at(Vec::new(alloc), &known, known.stage)?,
                 touched: None,
             })),
             None => Ok(Raw::Stands(Reply::Stale)),

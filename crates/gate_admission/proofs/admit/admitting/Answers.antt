@@ -1,4 +1,4 @@
-use Rattle.std.proofs.Common.{◌≡◌, ◌∙◌, ◌+◌, ◌<◌, ◌≤◌, ◌||◌, ⊎_elim, sym, ap, subst, refl, arith}
+use Rattle.std.proofs.Common.{◌≡◌, ◌∙◌, ◌+◌, ◌<◌, ◌≤◌, ◌||◌, ⊎_elim, sym, ap, subst, refl, arith, rules}
 use Rattle.std.specs.Prelude.{nat_lt}
 use Rattle.std.specs.List.{list_any}
 use Rattle.std.specs.Ordering.{nat_cmp}
@@ -13,10 +13,11 @@ use Rattle.gate_admission.specs.Candidates.{EntersByEdits}
 use Rattle.gate_admission.proofs.Admitted.{tries}
 use Rattle.gate_admission.proofs.Tries.{past_stays, none_past, idle_stays, next_entered, all_entered, none_for_next}
 use Rattle.gate_book_trait.proofs.KeptLemmas.{then}
+use Rattle.gate_book_trait.proofs.ReadingLemmas.{is_read_under}
 use Rattle.gate_admission.proofs.admit.admitting.Goals as goal
 
-pub returns-then-is_idle-clause-admitted : goal.returns-then-is_idle-clause-admitted
-returns-then-is_idle-clause-admitted g c = λ trusted x holds lawful v sound leads enters.
+pub returns-then-is_idle : goal.returns-then-is_idle
+returns-then-is_idle g c = is_read_under (λ trusted x holds lawful v sound leads enters.
     let s = c.args.config.now in
     let es = c.as_slice.ensures.value in
     let so_far = subst (λ es. IsLed s x es v) (sym es) (record { sound = sound; leads = leads }) in
@@ -26,10 +27,11 @@ returns-then-is_idle-clause-admitted g c = λ trusted x holds lawful v sound lea
     (record { sound = sound; leads = leads })
     (ap (list_any sets_past) (sym c.as_slice-2.ensures.value) ∙ idle.1)
     (c.in_ok-waiting.ensures.found trusted s x holds lawful v so_far by)
-    (λ a. ap (λ es. lookup (is_at (nat_cmp a)) es) idle.0)
+    (λ a. ap (λ es. lookup (is_at (nat_cmp a)) es) idle.0))
+    (search rules) (search rules)
 
-pub returns-then-is_past-clause-admitted : goal.returns-then-is_past-clause-admitted
-returns-then-is_past-clause-admitted g c = λ trusted x holds lawful v sound leads enters.
+pub returns-then-is_past : goal.returns-then-is_past
+returns-then-is_past g c = is_read_under (λ trusted x holds lawful v sound leads enters.
     let s = c.args.config.now in
     let one = c.in_ok-drawn.ensures.kept.trusted_before trusted in
     let next = c.in_ok-waiting.ensures.kept.holds_on one s x holds in
@@ -39,7 +41,8 @@ returns-then-is_past-clause-admitted g c = λ trusted x holds lawful v sound lea
     (ap (λ (d : Drawn). nat_lt last_number d.approval || nat_lt last_number d.build || nat_lt
     last_number d.order)
     (sym (c.in_ok-drawn.ensures.found trusted s x next lawful v so_far))
-    ∙ sym c.is_past.ensures ∙ c.if-is_past.true)
+    ∙ sym c.is_past.ensures ∙ c.if-is_past.true))
+    (then c.in_ok-waiting.ensures.kept c.in_ok-drawn.ensures.kept) (search rules)
 
 pub loop-order-init : goal.loop-order-init
 loop-order-init g c =
@@ -73,8 +76,8 @@ loop-order-init g c =
           };
     }
 
-pub returns-in_default-clause-admitted : goal.returns-in_default-clause-admitted
-returns-in_default-clause-admitted g c = λ trusted x holds lawful v sound leads enters.
+pub returns-in_default : goal.returns-in_default
+returns-in_default g c = is_read_under (λ trusted x holds lawful v sound leads enters.
     let s = c.args.config.now in
     let led : IsLed s x c.args.edits.items v = record { sound = sound; leads = leads } in
     let one = c.in_ok-entrant.ensures.kept.trusted_before trusted in
@@ -85,10 +88,11 @@ returns-in_default-clause-admitted g c = λ trusted x holds lawful v sound leads
     let none = rw c.in_default.is at (c.in_ok-entrant.ensures.found trusted x start lawful (tries s v h.entered) so_far
     h.candidates) in
     all_entered s x c.loop-order.edits.items c.loop-order.order v c.loop-order.waiting h
-    c.loop-order.invariant.low none
+    c.loop-order.invariant.low none)
+    (then c.loop-order.invariant.kept c.in_ok-entrant.ensures.kept) (search rules)
 
-pub returns-in_default-new-clause-admitted : goal.returns-in_default-new-clause-admitted
-returns-in_default-new-clause-admitted g c = λ trusted x holds lawful v sound leads enters.
+pub returns-in_default-new : goal.returns-in_default-new
+returns-in_default-new g c = is_read_under (λ trusted x holds lawful v sound leads enters.
     let s = c.args.config.now in
     let led : IsLed s x c.args.edits.items v = record { sound = sound; leads = leads } in
     let one = c.in_ok-entrant.ensures.kept.trusted_before trusted in
@@ -104,7 +108,8 @@ returns-in_default-new-clause-admitted g c = λ trusted x holds lawful v sound l
     (λ (l : last_number ≤ c.loop-order.order). l)
     (cases_lt c.loop-order.order last_number) in
     none_for_next s x c.loop-order.edits.items c.loop-order.order v c.in-Some.entrant.ready c.loop-order.waiting h
-    first.1.first last
+    first.1.first last)
+    (then c.loop-order.invariant.kept c.in_ok-entrant.ensures.kept) (search rules)
 
 pub loop-order-preserved : goal.loop-order-preserved
 loop-order-preserved g c = record {
@@ -124,7 +129,7 @@ loop-order-preserved g c = record {
       let so_far = subst (λ es. IsLed s x es u) (sym c.as_slice-in-loop-order.ensures.value) h.under.led in
       let first = rw c.in-Some.is at (c.in_ok-entrant.ensures.found two x start lawful u so_far h.candidates) in
       let r = c.in-Some.entrant.ready in
-      let all = c.in_ok-enter.ensures.led three x next lawful u h.under.led first.1.first first.0
+      let all = c.in_ok-enter.ensures.found three x next lawful u h.under.led first.1.first first.0
       (c.in-Some-new.ensures.value ∙ ap (λ n. n + 1) (sym h.under.order)) in
       next_entered s x c.loop-order.edits.items c.enter.new.edits.items c.loop-order.order v r c.loop-order.waiting
       c.add_needing.new.waiting h first.1.first all
@@ -132,32 +137,26 @@ loop-order-preserved g c = record {
       (subst (λ es. IsLed s x es (entered s u r)) (sym c.as_slice-in-loop-order-2.ensures.value) all) first.1.others);
 }
 
-pub returns-clause-admitted : goal.returns-clause-admitted
-returns-clause-admitted g c = λ trusted x holds lawful v sound leads enters.
-    absurd (omega (arith, c.loop-order-test.false, c.loop-order.invariant.low))
+pub returns : goal.returns
+returns g c = is_read_under (λ trusted x holds lawful v sound leads enters.
+    absurd (omega (arith, c.loop-order-test.false, c.loop-order.invariant.low)))
+    (search rules) (search rules)
 
-pub returns-in_err-drawn-clause-kept : goal.returns-in_err-drawn-clause-kept
-returns-in_err-drawn-clause-kept g c = then c.in_ok-waiting.ensures.kept c.in_err-drawn.ensures.kept
+pub returns-in_err-drawn : goal.returns-in_err-drawn
+returns-in_err-drawn g c =
+    is_read_under (search rules) (then c.in_ok-waiting.ensures.kept c.in_err-drawn.ensures.kept) (search rules)
 
-pub returns-then-is_past-clause-kept : goal.returns-then-is_past-clause-kept
-returns-then-is_past-clause-kept g c = then c.in_ok-waiting.ensures.kept c.in_ok-drawn.ensures.kept
+pub returns-in_err-entrant : goal.returns-in_err-entrant
+returns-in_err-entrant g c =
+    is_read_under (search rules) (then c.loop-order.invariant.kept c.in_err-entrant.ensures.kept) (search rules)
 
-pub returns-in_err-entrant-clause-kept : goal.returns-in_err-entrant-clause-kept
-returns-in_err-entrant-clause-kept g c = then c.loop-order.invariant.kept c.in_err-entrant.ensures.kept
+pub returns-in_err-enter : goal.returns-in_err-enter
+returns-in_err-enter g c = is_read_under (search rules)
+    (let two = then c.loop-order.invariant.kept c.in_ok-entrant.ensures.kept in
+    then two c.in_err-enter.ensures.kept) (search rules)
 
-pub returns-in_default-clause-kept : goal.returns-in_default-clause-kept
-returns-in_default-clause-kept g c = then c.loop-order.invariant.kept c.in_ok-entrant.ensures.kept
-
-pub returns-in_default-new-clause-kept : goal.returns-in_default-new-clause-kept
-returns-in_default-new-clause-kept g c = then c.loop-order.invariant.kept c.in_ok-entrant.ensures.kept
-
-pub returns-in_err-enter-clause-kept : goal.returns-in_err-enter-clause-kept
-returns-in_err-enter-clause-kept g c =
-    let two = then c.loop-order.invariant.kept c.in_ok-entrant.ensures.kept in
-    then two c.in_err-enter.ensures.kept
-
-pub returns-in_err-add_needing-clause-kept : goal.returns-in_err-add_needing-clause-kept
-returns-in_err-add_needing-clause-kept g c =
-    let two = then c.loop-order.invariant.kept c.in_ok-entrant.ensures.kept in
+pub returns-in_err-add_needing : goal.returns-in_err-add_needing
+returns-in_err-add_needing g c = is_read_under (search rules)
+    (let two = then c.loop-order.invariant.kept c.in_ok-entrant.ensures.kept in
     let three = then two c.in_ok-enter.ensures.kept in
-    then three c.in_err-add_needing.ensures.kept
+    then three c.in_err-add_needing.ensures.kept) (search rules)

@@ -1,5 +1,6 @@
 use Rattle.std.proofs.Common.{◌≡◌, ◌∙◌, ◌++◌, sym, ap, subst, [], true, not, rules}
 use Rattle.std.specs.List.{list_all}
+use Rattle.std.specs.Prelude.{is_some}
 use Rattle.std.specs.Option.{option_map_or}
 use Rattle.gate_types.specs.Settings.{are_sound}
 use Rattle.gate_types.specs.State.{known_change}
@@ -7,7 +8,9 @@ use Rattle.gate_types.specs.Rows.{item_rows}
 use Rattle.gate_types.specs.Standing.{needs_of}
 use Rattle.gate_types.specs.Admit.{entered}
 use Rattle.gate_book_trait.specs.Reads.{items_in}
+use Rattle.gate_book_trait.proofs.ReadingLemmas.{is_read_under}
 use Rattle.gate_admission.specs.Led.{IsLed}
+use Rattle.gate_admission.specs.Seen.{last_put}
 use Rattle.gate_admission.specs.Enters.{is_met_by_rows, entering_row, entering_edits}
 use Rattle.gate_admission.proofs.Admitted.{are_named, in_project, place_there, queue_is}
 use Rattle.gate_admission.proofs.Admitted.{plan_is}
@@ -15,13 +18,14 @@ use Rattle.gate_admission.proofs.EnteringEdits.{entering_leads}
 use Rattle.gate_admission.proofs.entering.enter.Goals as goal
 use Rattle.gate_laws.proofs.RecordedChange.{known_number}
 
-pub returns-clause-led : goal.returns-clause-led
-returns-clause-led g c = λ trusted x holds lawful v led first is serial.
+pub returns : goal.returns
+returns g c = is_read_under (λ trusted x holds lawful v led first is serial.
     let s = c.args.config.now in
     let e = c.args.entrant in
     let n = e.ready.change in
     let k = e.change in
     let p = e.project.now in
+    let is_put = is_some (last_put k.number c.args.edits.now.items) in
     let sound : are_sound s ≡ true = search rules in
     let so_far = subst (λ es. IsLed s x es v) (sym c.as_slice.ensures.value) led in
     let named = are_named s x v sound lawful led.sound in
@@ -41,7 +45,8 @@ returns-clause-led g c = λ trusted x holds lawful v led first is serial.
     subst (λ es. IsLed s x es (entered s v e.ready))
     (sym (c.in_ok-push_entering.ensures
     ∙ (λ i. c.args.edits.now.items ++
-    entering_edits (c.in_ok-queue.ensures i) k c.in_ok-row.row c.in_ok-plan.plan)))
-    (entering_leads s x c.args.edits.now.items v e.ready k p.queue queue.queue c.in_ok-row.row c.in_ok-plan.plan
+    entering_edits (c.in_ok-queue.ensures i) is_put k c.in_ok-row.row c.in_ok-plan.plan)))
+    (entering_leads s x c.args.edits.now.items v e.ready k p.queue is_put queue.queue c.in_ok-row.row c.in_ok-plan.plan
     sound led first is.known name queue.named row_is
-    (plan_is s v n p project c.args.serial serial c.in_ok-plan.plan c.in_ok-plan.ensures))
+    (plan_is s v n p project c.args.serial serial c.in_ok-plan.plan c.in_ok-plan.ensures)))
+    (search rules) (search rules)

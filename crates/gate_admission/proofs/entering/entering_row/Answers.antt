@@ -1,12 +1,13 @@
-use Rattle.std.proofs.Common.{◌≡◌, Option, [], sym, ap}
+use Rattle.std.proofs.Common.{◌≡◌, Option, [], sym, ap, rules}
 use Rattle.std.specs.Prelude.{unwrap_or}
 use Rattle.gate_types.specs.declared.records.Change.{Change}
 use Rattle.gate_types.specs.declared.records.Stage.TheVariants as stage
 use Rattle.gate_types.specs.State.{change_of}
+use Rattle.gate_book_trait.proofs.ReadingLemmas.{is_read}
 use Rattle.gate_admission.proofs.entering.entering_row.Goals as goal
 
-pub returns-clause-found : goal.returns-clause-found
-returns-clause-found g c = λ trusted s x holds lawful v led known failing there serial.
+pub returns : goal.returns
+returns g c = is_read (λ trusted s x holds lawful v led known failing there serial.
     let k = c.args.change.now in
     let revision : k.revision ≡ (change_of v k.number).revision =
     ap (λ (o : Option Change). (unwrap_or o (record {
@@ -23,4 +24,5 @@ returns-clause-found g c = λ trusted s x holds lawful v led known failing there
       revision = revision i;
       ahead = ahead i;
       failing = failing i;
-    }
+    })
+    (search rules) (search rules)

@@ -1,7 +1,8 @@
-use Rattle.std.proofs.Common.{◌<◌, ◌≡◌, ◌∙◌, sym, ap, subst}
+use Rattle.std.proofs.Common.{◌<◌, ◌≡◌, ◌∙◌, sym, ap, subst, rules}
 use Rattle.std.specs.Prelude.{IfSome, option_map}
 use Rattle.gate_book_trait.specs.Reads.{items_in, last_below}
 use Rattle.gate_book_trait.proofs.KeptLemmas.{then}
+use Rattle.gate_book_trait.proofs.ReadingLemmas.{is_read}
 use Rattle.gate_admission.specs.declared.items.Below.{Below}
 use Rattle.gate_admission.specs.Seen.{items_after, item_at}
 use Rattle.gate_admission.proofs.QueueItems.{rising_after}
@@ -9,8 +10,8 @@ use Rattle.gate_admission.proofs.Standing.{items_rise}
 use Rattle.gate_admission.proofs.LastItem.{none_below, last_found, none_found, last_lower, most_of, none_of}
 use Rattle.gate_admission.proofs.items.last_below.Goals as goal
 
-pub returns-then-is_some-clause-found : goal.returns-then-is_some-clause-found
-returns-then-is_some-clause-found g c = λ trusted s x holds lawful.
+pub returns-then-is_some : goal.returns-then-is_some
+returns-then-is_some g c = is_read (λ trusted s x holds lawful.
     let name = c.args.queue.now in
     let rows = items_in s x.state name in
     let all = items_after name rows c.args.edits.now in
@@ -26,7 +27,8 @@ returns-then-is_some-clause-found g c = λ trusted s x holds lawful.
     sym (last_found c.loop-next.end next.serial all next.item (rising_after name rows c.args.edits.now up) low
     (most_of name c.loop-next.end next.serial rows c.args.edits.now up serial) (sym item)
     (sym c.is_some.ensures ∙ c.if-is_some.true))
-    ∙ c.loop-next.invariant.found zero s x holds lawful
+    ∙ c.loop-next.invariant.found zero s x holds lawful)
+    (search rules) (search rules)
 
 pub loop-next-preserved : goal.loop-next-preserved
 loop-next-preserved g c = record {
@@ -51,8 +53,8 @@ loop-next-preserved g c = record {
       ∙ c.loop-next.invariant.found zero s x holds lawful;
 }
 
-pub returns-clause-found : goal.returns-clause-found
-returns-clause-found g c = λ trusted s x holds lawful.
+pub returns : goal.returns
+returns g c = is_read (λ trusted s x holds lawful.
     let name = c.args.queue.now in
     let rows = items_in s x.state name in
     let up = items_rise s x.state name lawful.lawful.sound in
@@ -62,4 +64,5 @@ returns-clause-found g c = λ trusted s x holds lawful.
     (none_of name c.loop-next.end rows c.args.edits.now up
     (sym (ap (option_map (λ (b : Below). b.serial)) (sym c.in_default.is)
     ∙ c.in_ok-next.ensures.serial trusted s x start lawful))))
-    ∙ c.loop-next.invariant.found zero s x holds lawful
+    ∙ c.loop-next.invariant.found zero s x holds lawful)
+    (search rules) (search rules)

@@ -1,4 +1,4 @@
-use Rattle.std.proofs.Common.{◌≡◌, true, sym, ap, subst}
+use Rattle.std.proofs.Common.{◌≡◌, true, sym, ap, subst, rules}
 use Rattle.std.specs.Ordering.{nat_cmp}
 use Rattle.std.specs.BTreeMap.{is_at}
 use Rattle.std.specs.Map.{lookup}
@@ -7,10 +7,11 @@ use Rattle.gate_admission.specs.Candidates.{EntersFirst}
 use Rattle.gate_admission.specs.Entrants.{TellsEntrant}
 use Rattle.gate_admission.proofs.Waiting.{nobody_left, passed, enters_first}
 use Rattle.gate_book_trait.proofs.KeptLemmas.{then}
+use Rattle.gate_book_trait.proofs.ReadingLemmas.{is_read_under}
 use Rattle.gate_admission.proofs.passing.first_to_enter.Goals as goal
 
-pub returns-in-Some-2-clause-found : goal.returns-in-Some-2-clause-found
-returns-in-Some-2-clause-found g c = λ trusted x holds lawful v led are.
+pub returns-in-Some-2 : goal.returns-in-Some-2
+returns-in-Some-2 g c = is_read_under (λ trusted x holds lawful v led are.
     let s = c.args.config.now in
     let one = c.in_ok-found.ensures.kept.trusted_before trusted in
     let start = c.loop-ready.invariant.kept.holds_on one s x holds in
@@ -22,7 +23,8 @@ returns-in-Some-2-clause-found g c = λ trusted x holds lawful v led are.
       subst (λ t. EntersFirst s v t c.next.new.waiting) (sym told.0)
           (enters_first s v led.sound c.loop-ready.waiting c.next.new.waiting r now c.in-Some.ensures.found
           c.in-Some.ensures.rest.0 may c.in-Some.ensures.least),
-    )
+    ))
+    (search rules) (search rules)
 
 pub loop-ready-preserved : goal.loop-ready-preserved
 loop-ready-preserved g c = record {
@@ -39,7 +41,8 @@ loop-ready-preserved g c = record {
       c.in-Some.ensures.rest.0 (told (now.ready r c.in-Some.ensures.found));
 }
 
-pub returns-clause-found : goal.returns-clause-found
-returns-clause-found g c = λ trusted x holds lawful v led are.
+pub returns : goal.returns
+returns g c = is_read_under (λ trusted x holds lawful v led are.
     nobody_left c.args.config.now v c.loop-ready.waiting (c.loop-ready.invariant.found trusted x holds lawful v led are)
-    (λ a. ap (λ es. lookup (is_at (nat_cmp a)) es) c.in_default.ensures.none)
+    (λ a. ap (λ es. lookup (is_at (nat_cmp a)) es) c.in_default.ensures.none))
+    (search rules) (search rules)

@@ -7,11 +7,12 @@ use Rattle.gate_book_trait.specs.Reads.{items_in}
 use Rattle.gate_admission.specs.Led.{IsLed}
 use Rattle.gate_admission.proofs.Admitted.{are_named, project_is, queue_is}
 use Rattle.gate_admission.proofs.ProjectQueue.{queue_there}
+use Rattle.gate_book_trait.proofs.ReadingLemmas.{is_read_under}
 use Rattle.gate_core.proofs.Placed.{told_place, told_nowhere}
 use Rattle.gate_core.proofs.speaking.place_of.Goals as goal
 
-pub returns-in_default-clause-told : goal.returns-in_default-clause-told
-returns-in_default-clause-told g c trusted x holds lawful u sound leads =
+pub returns-in_default : goal.returns-in_default
+returns-in_default g c = is_read_under (λ trusted x holds lawful u sound leads.
     let s = c.args.config.now in
     let n = c.args.change in
     let set : are_sound s ≡ true = search rules in
@@ -19,10 +20,11 @@ returns-in_default-clause-told g c trusted x holds lawful u sound leads =
     let none = ap (λ (m : List ℕ). find (λ p. same_name p.name m) s.projects)
     (sym (project_is u n (known_change u n) refl))
     ∙ sym (c.in_ok-project.ensures.found trusted x holds lawful u led) ∙ ap option_copied c.in_default.is in
-    told_nowhere s u set sound n (are_named s x u set lawful sound) none
+    told_nowhere s u set sound n (are_named s x u set lawful sound) none)
+    (search rules) (search rules)
 
-pub returns-in-Some-2-clause-told : goal.returns-in-Some-2-clause-told
-returns-in-Some-2-clause-told g c trusted x holds lawful u sound leads =
+pub returns-in-Some-2 : goal.returns-in-Some-2
+returns-in-Some-2 g c = is_read_under (λ trusted x holds lawful u sound leads.
     let s = c.args.config.now in
     let n = c.args.change in
     let p = c.in-Some.project.now in
@@ -35,10 +37,11 @@ returns-in-Some-2-clause-told g c trusted x holds lawful u sound leads =
     ∙ sym (c.in_ok-project.ensures.found before x holds lawful u led) ∙ ap option_copied c.in-Some.is in
     let row = c.in_ok-item.ensures.found trusted s x there lawful u led (queue_there s u set sound _ p some) in
     told_place s u set sound n (Some c.in-Some-2.item)
-    (sym c.in-Some-2.is ∙ row ∙ ap (λ m. find (λ r. r.change == n) (items_in s u m)) (queue_is s u n p some))
+    (sym c.in-Some-2.is ∙ row ∙ ap (λ m. find (λ r. r.change == n) (items_in s u m)) (queue_is s u n p some)))
+    (search rules) (search rules)
 
-pub returns-in-None-clause-told : goal.returns-in-None-clause-told
-returns-in-None-clause-told g c trusted x holds lawful u sound leads =
+pub returns-in-None : goal.returns-in-None
+returns-in-None g c = is_read_under (λ trusted x holds lawful u sound leads.
     let s = c.args.config.now in
     let n = c.args.change in
     let p = c.in-Some.project.now in
@@ -51,4 +54,5 @@ returns-in-None-clause-told g c trusted x holds lawful u sound leads =
     ∙ sym (c.in_ok-project.ensures.found before x holds lawful u led) ∙ ap option_copied c.in-Some.is in
     let row = c.in_ok-item.ensures.found trusted s x there lawful u led (queue_there s u set sound _ p some) in
     told_place s u set sound n None
-    (sym c.in-None.is ∙ row ∙ ap (λ m. find (λ r. r.change == n) (items_in s u m)) (queue_is s u n p some))
+    (sym c.in-None.is ∙ row ∙ ap (λ m. find (λ r. r.change == n) (items_in s u m)) (queue_is s u n p some)))
+    (search rules) (search rules)

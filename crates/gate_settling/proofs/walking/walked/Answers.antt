@@ -17,9 +17,10 @@ use Rattle.gate_settling.proofs.walking.walked.Goals as goal
 
 pub loop-next-init : goal.loop-next-init
 loop-next-init g c = record {
-  kept = c.in_ok-next.ensures.kept;
+  kept = c.in_ok-next.ensures.reads.kept;
   under_way = λ trusted x holds lawful h starts. (
-    starts_under_way h c.args.begun c.in_ok-next.next starts (c.in_ok-next.ensures.row trusted _ x holds lawful h),
+    starts_under_way h c.args.begun c.in_ok-next.next starts
+        (c.in_ok-next.ensures.reads.found trusted _ x holds lawful h),
     nothing_kept x.state c.args.begun.carry.gone (items_in c.args.config.now x.state c.args.touched.now.queue)
         c.none-needing.result.rows.items c.none-needing.result.asked c.in_ok-next.next c.none-needing.ensures.rows
         c.none-needing.ensures.asked,
@@ -49,15 +50,15 @@ loop-next-preserved g c =
     let behind = subst (λ o. IfSome o (λ (r : Item). c.args.touched.now.item.serial ≤ r.serial)) c.in-Some.is
     c.loop-next.invariant.behind in
     record {
-      kept = then (then c.loop-next.invariant.kept c.in_ok-asks.ensures.kept) c.in_ok-next-2.ensures.kept;
+      kept = then (then c.loop-next.invariant.kept c.in_ok-asks.ensures.reads.kept) c.in_ok-next-2.ensures.kept;
       under_way = λ trusted x holds lawful h starts.
           let second = c.in_ok-next-2.ensures.kept.trusted_before trusted in
-          let first = c.in_ok-asks.ensures.kept.trusted_before second in
+          let first = c.in_ok-asks.ensures.reads.kept.trusted_before second in
           let held = c.loop-next.invariant.kept.holds_on first _ x holds in
-          let asked = c.in_ok-asks.ensures.kept.holds_on second _ x held in
+          let asked = c.in_ok-asks.ensures.reads.kept.holds_on second _ x held in
           let before = c.loop-next.invariant.under_way first x holds lawful h starts in
           let way = before.0 in
-          let on = c.in_ok-asks.ensures.visited second x held lawful h way.visits way.visited
+          let on = c.in_ok-asks.ensures.reads.found second x held lawful h way.visits way.visited
           (way.wanted ∙ ap (option_map (sees h)) c.in-Some.is) in
           let items = items_in s x.state queue in
           let gone = c.gone.ensures in

@@ -29,3 +29,9 @@ returns-in-DropItem-clause-room c n m room = record { changes = changes_less n (
 
 pub returns-in-PutPlan-clause-room : goal.returns-in-PutPlan-clause-room
 returns-in-PutPlan-clause-room c n m room = record { changes = changes_less n (needs_of c.args.edit) m c.args.self.now.changes room.changes; plans = c.put-in-PutPlan.ensures.room n room.plans; builds = builds_less n c.args.self.now.builds room.builds; replies = replies_less n c.args.self.now.replies room.replies }
+
+pub returns-in-LandItem-clause-room : goal.returns-in-LandItem-clause-room
+returns-in-LandItem-clause-room c n m room = record { changes = changes_less n (needs_of c.args.edit) m c.args.self.now.changes room.changes; plans = plans_less n c.unmark.new.self (c.unmark.ensures.room (suc n) room.plans); builds = builds_less n c.args.self.now.builds room.builds; replies = replies_less n c.args.self.now.replies room.replies }
+
+pub returns-in-SetStage-clause-room : goal.returns-in-SetStage-clause-room
+returns-in-SetStage-clause-room c n m room = record { changes = c.set_stage.ensures.room n m (changes_less n (needs_of c.args.edit) m c.args.self.now.changes room.changes); plans = plans_less n c.args.self.now.plans room.plans; builds = builds_less n c.args.self.now.builds room.builds; replies = replies_less n c.args.self.now.replies room.replies }

@@ -9,6 +9,7 @@ use Rattle.gate_types.specs.State.{change_queue}
 use Rattle.gate_types.specs.Step.{leave, shrunk_queue}
 use Rattle.gate_queue_rules.specs.Edits.{window_edits}
 use Rattle.gate_book_trait.proofs.KeptLemmas.{then}
+use Rattle.gate_book_trait.proofs.ReadingLemmas.{is_read_under}
 use Rattle.gate_reads.specs.Moves.{Moves}
 use Rattle.gate_reads.specs.Touches.{Touches}
 use Rattle.gate_reads.specs.Windows.{bounds_if, window_now}
@@ -20,8 +21,8 @@ use Rattle.gate_ruling.proofs.Ordered.{refusing, refused_touches, refused_raw, s
 use Rattle.gate_ruling.proofs.Missing.{window_there, window_stored}
 use Rattle.gate_ruling.proofs.kinds.refused.refused.Goals as goal
 
-pub returns-clause-raw : goal.returns-clause-raw
-returns-clause-raw g c trusted x holds lawful =
+pub returns-clause-reads : goal.returns-clause-reads
+returns-clause-reads g c = is_read_under (λ trusted x holds lawful.
     let s = c.args.config.now in
     let number = c.args.order in
     let k = c.in-Ok.shown.queued in
@@ -30,7 +31,7 @@ returns-clause-raw g c trusted x holds lawful =
     let sound = lawful.lawful.sound in
     let one = c.in_ok-figures.ensures.kept.trusted_before trusted in
     let at_one = c.in_ok-shown.ensures.kept.holds_on one _ x holds in
-    let ordered = subst (IsOrdered s x number) c.in-Ok.is (c.in_ok-shown.ensures.ordered one x holds lawful) in
+    let ordered = subst (IsOrdered s x number) c.in-Ok.is (c.in_ok-shown.ensures.found one x holds lawful) in
     let o = ordered.0 in
     let figures = c.in_ok-figures.ensures.found trusted s x at_one lawful in
     let h = stored s x.state k.queue k.item o.row.stored in
@@ -54,7 +55,8 @@ returns-clause-raw g c trusted x holds lawful =
           (c.in_ok-edits.ensures x lawful o.row.stored figures.reports (c.as_slice.ensures ∙ ordered.2))
           (shrinks s x k settings sound h c.window_now-resized.result window));
       makes_ready = tt;
-    }
+    })
+    (then c.in_ok-shown.ensures.kept c.in_ok-figures.ensures.kept) (search rules)
 
 pub returns-in_default-clause-undamaged : goal.returns-in_default-clause-undamaged
 returns-in_default-clause-undamaged g c trusted x holds lawful =
@@ -62,28 +64,30 @@ returns-in_default-clause-undamaged g c trusted x holds lawful =
     let k = c.in-Ok.shown.queued in
     let before = c.in_ok-figures.ensures.kept.trusted_before trusted in
     let held = c.in_ok-shown.ensures.kept.holds_on before _ x holds in
-    let o = (subst (IsOrdered s x c.args.order) c.in-Ok.is (c.in_ok-shown.ensures.ordered before x holds lawful)).0 in
+    let o = (subst (IsOrdered s x c.args.order) c.in-Ok.is (c.in_ok-shown.ensures.found before x holds lawful)).0 in
     let h = stored s x.state k.queue k.item o.row.stored in
     absurd (window_there s x.state k.queue k.item h
     (sym (c.in_ok-figures.ensures.found trusted s x held lawful).window ∙ c.in_default.is))
 
-pub returns-in-Err-clause-raw : goal.returns-in-Err-clause-raw
-returns-in-Err-clause-raw g c trusted x holds lawful =
+pub returns-in-Err-clause-reads : goal.returns-in-Err-clause-reads
+returns-in-Err-clause-reads g c = is_read_under (λ trusted x holds lawful.
     let s = c.args.config.now in
-    subst (IsOrdered s x c.args.order) c.in-Err.is (c.in_ok-shown.ensures.ordered trusted x holds lawful)
-    (refusing s x.state) (delivery.Refused c.args.order) refl
+    subst (IsOrdered s x c.args.order) c.in-Err.is (c.in_ok-shown.ensures.found trusted x holds lawful)
+    (refusing s x.state) (delivery.Refused c.args.order) refl)
+    (search rules) (search rules)
 
-pub returns-in_err-figures-clause-kept : goal.returns-in_err-figures-clause-kept
-returns-in_err-figures-clause-kept g c = then c.in_ok-shown.ensures.kept c.in_err-figures.ensures.kept
+pub returns-in_err-figures-clause-reads : goal.returns-in_err-figures-clause-reads
+returns-in_err-figures-clause-reads g c =
+    is_read_under (search rules) (then c.in_ok-shown.ensures.kept c.in_err-figures.ensures.kept) (search rules)
 
-pub returns-in_default-clause-kept : goal.returns-in_default-clause-kept
-returns-in_default-clause-kept g c = then c.in_ok-shown.ensures.kept c.in_ok-figures.ensures.kept
+pub returns-in_default-clause-reads : goal.returns-in_default-clause-reads
+returns-in_default-clause-reads g c =
+    is_read_under (search rules) (then c.in_ok-shown.ensures.kept c.in_ok-figures.ensures.kept) (search rules)
 
-pub returns-in_err-edits-clause-kept : goal.returns-in_err-edits-clause-kept
-returns-in_err-edits-clause-kept g c = then c.in_ok-shown.ensures.kept c.in_ok-figures.ensures.kept
+pub returns-in_err-edits-clause-reads : goal.returns-in_err-edits-clause-reads
+returns-in_err-edits-clause-reads g c =
+    is_read_under (search rules) (then c.in_ok-shown.ensures.kept c.in_ok-figures.ensures.kept) (search rules)
 
-pub returns-in_err-with_window-clause-kept : goal.returns-in_err-with_window-clause-kept
-returns-in_err-with_window-clause-kept g c = then c.in_ok-shown.ensures.kept c.in_ok-figures.ensures.kept
-
-pub returns-clause-kept : goal.returns-clause-kept
-returns-clause-kept g c = then c.in_ok-shown.ensures.kept c.in_ok-figures.ensures.kept
+pub returns-in_err-with_window-clause-reads : goal.returns-in_err-with_window-clause-reads
+returns-in_err-with_window-clause-reads g c =
+    is_read_under (search rules) (then c.in_ok-shown.ensures.kept c.in_ok-figures.ensures.kept) (search rules)

@@ -5,14 +5,15 @@ use Rattle.gate_types.specs.Slot.{is_running}
 use Rattle.gate_types.specs.Step.{build_of, end_build, settled_step}
 use Rattle.gate_book_trait.specs.Reads.{item_at}
 use Rattle.gate_book_trait.proofs.KeptLemmas.{then}
+use Rattle.gate_book_trait.proofs.ReadingLemmas.{is_read_under}
 use Rattle.gate_reads.specs.Moves.{Moves}
 use Rattle.gate_reads.specs.Touches.{Touches}
 use Rattle.gate_ruling.proofs.Ended.{unknown_raw, late_raw, ended_raw, ended_touches, ended_moves}
 use Rattle.gate_ruling.proofs.Missing.{item_there}
 use Rattle.gate_ruling.proofs.kinds.result.result.Goals as goal
 
-pub returns-clause-raw : goal.returns-clause-raw
-returns-clause-raw g c trusted x holds lawful =
+pub returns-clause-reads : goal.returns-clause-reads
+returns-clause-reads g c = is_read_under (λ trusted x holds lawful.
     let s = c.args.config.now in
     let n = c.args.build in
     let e = c.args.ending in
@@ -37,7 +38,8 @@ returns-clause-raw g c trusted x holds lawful =
           item figures);
       moves = subst (λ es. Moves x es (end_build e n x.state)) (sym c.in_ok-left.ensures.edits) (ended_moves x n e);
       makes_ready = tt;
-    }
+    })
+    (then (then c.in_ok-known.ensures.kept c.in_ok-item.ensures.kept) c.in_ok-figures.ensures.kept) (search rules)
 
 pub returns-in_default-2-clause-undamaged : goal.returns-in_default-2-clause-undamaged
 returns-in_default-2-clause-undamaged g c trusted x holds lawful =
@@ -52,32 +54,32 @@ returns-in_default-2-clause-undamaged g c trusted x holds lawful =
     let runs : b.live && is_running b.outcome ≡ true = sym c.is_under_way.ensures ∙ c.if-not-is_under_way.false in
     absurd (item_there s x.state c.args.build b lawful.lawful.sound known runs none)
 
-pub returns-in_err-item-clause-kept : goal.returns-in_err-item-clause-kept
-returns-in_err-item-clause-kept g c = then c.in_ok-known.ensures.kept c.in_err-item.ensures.kept
+pub returns-in_err-item-clause-reads : goal.returns-in_err-item-clause-reads
+returns-in_err-item-clause-reads g c =
+    is_read_under (search rules) (then c.in_ok-known.ensures.kept c.in_err-item.ensures.kept) (search rules)
 
-pub returns-in_default-2-clause-kept : goal.returns-in_default-2-clause-kept
-returns-in_default-2-clause-kept g c = then c.in_ok-known.ensures.kept c.in_ok-item.ensures.kept
+pub returns-in_default-2-clause-reads : goal.returns-in_default-2-clause-reads
+returns-in_default-2-clause-reads g c =
+    is_read_under (search rules) (then c.in_ok-known.ensures.kept c.in_ok-item.ensures.kept) (search rules)
 
-pub returns-in_err-figures-clause-kept : goal.returns-in_err-figures-clause-kept
-returns-in_err-figures-clause-kept g c =
-    then (then c.in_ok-known.ensures.kept c.in_ok-item.ensures.kept) c.in_err-figures.ensures.kept
+pub returns-in_err-figures-clause-reads : goal.returns-in_err-figures-clause-reads
+returns-in_err-figures-clause-reads g c = is_read_under (search rules)
+    (then (then c.in_ok-known.ensures.kept c.in_ok-item.ensures.kept) c.in_err-figures.ensures.kept) (search rules)
 
-pub returns-in_err-left-clause-kept : goal.returns-in_err-left-clause-kept
-returns-in_err-left-clause-kept g c =
-    then (then c.in_ok-known.ensures.kept c.in_ok-item.ensures.kept) c.in_ok-figures.ensures.kept
+pub returns-in_err-left-clause-reads : goal.returns-in_err-left-clause-reads
+returns-in_err-left-clause-reads g c = is_read_under (search rules)
+    (then (then c.in_ok-known.ensures.kept c.in_ok-item.ensures.kept) c.in_ok-figures.ensures.kept) (search rules)
 
-pub returns-clause-kept : goal.returns-clause-kept
-returns-clause-kept g c =
-    then (then c.in_ok-known.ensures.kept c.in_ok-item.ensures.kept) c.in_ok-figures.ensures.kept
-
-pub returns-in_default-clause-raw : goal.returns-in_default-clause-raw
-returns-in_default-clause-raw g c trusted x holds lawful =
+pub returns-in_default-clause-reads : goal.returns-in_default-clause-reads
+returns-in_default-clause-reads g c = is_read_under (λ trusted x holds lawful.
     let s = c.args.config.now in
     let none = sym (c.in_ok-known.ensures.found trusted s x holds lawful) ∙ c.in_default.is in
-    (ap (settled_step s) (unknown_raw x.state c.args.build c.args.ending none), refl)
+    (ap (settled_step s) (unknown_raw x.state c.args.build c.args.ending none), refl))
+    (search rules) (search rules)
 
-pub returns-then-not-is_under_way-clause-raw : goal.returns-then-not-is_under_way-clause-raw
-returns-then-not-is_under_way-clause-raw g c trusted x holds lawful =
+pub returns-then-not-is_under_way-clause-reads : goal.returns-then-not-is_under_way-clause-reads
+returns-then-not-is_under_way-clause-reads g c = is_read_under (λ trusted x holds lawful.
     let known = sym (c.in_ok-known.ensures.found trusted c.args.config.now x holds lawful) ∙ c.in-Some.is in
     late_raw x.state c.args.build c.args.ending c.in-Some.known known
-    (sym c.is_under_way.ensures ∙ c.if-not-is_under_way.true)
+    (sym c.is_under_way.ensures ∙ c.if-not-is_under_way.true))
+    (search rules) (search rules)

@@ -1,4 +1,5 @@
-use Rattle.std.proofs.Common.{◌≡◌, ◌∙◌, ◌≤◌, true, false, refl, sym, ap, subst}
+use Rattle.std.proofs.Common.{◌≡◌, ◌∙◌, ◌≤◌, true, false, refl, sym, ap, subst, arith, rules}
+use Rattle.std.proofs.lemmas.Grind.{common_steps}
 use Rattle.std.specs.Prelude.{nat_le, ◌||◌, not, length}
 use Rattle.std.specs.Option.{option_map_or}
 use Rattle.gate_types.specs.declared.deliveries.Delivery.TheVariants as delivery
@@ -13,12 +14,13 @@ use Rattle.gate_types.specs.SubmitOrder.{is_submitting}
 use Rattle.gate_types.specs.Step.{leave, revised, has_project, is_known_and}
 use Rattle.gate_types.specs.Limits.{most_needs}
 use Rattle.gate_book_trait.proofs.KeptLemmas.{then}
+use Rattle.gate_book_trait.proofs.ReadingLemmas.{is_read_under}
 use Rattle.gate_ruling.proofs.GivenUp.{given_up, submitting_so}
 use Rattle.gate_ruling.proofs.Closed.{revision_raw}
 use Rattle.gate_ruling.proofs.kinds.revision.revision.Goals as goal
 
-pub returns-clause-raw : goal.returns-clause-raw
-returns-clause-raw g c trusted x holds lawful =
+pub returns : goal.returns
+returns g c = is_read_under (λ trusted x holds lawful.
     let s = c.args.config.now in
     let n = c.args.change in
     let r = c.args.revision in
@@ -70,29 +72,29 @@ returns-clause-raw g c trusted x holds lawful =
       moves = c.in_ok-edits.ensures x (leave verdict.Superseded n x.state) lawful.lawful.sound.changes_rise
           (c.in_ok-left.ensures.moves trusted x at_two lawful n so free);
       makes_ready = tt;
-    }
+    })
+    (then (then c.in_ok-known.ensures.kept c.in_ok-place.ensures.kept) c.in_ok-left.ensures.kept) (search rules)
 
-pub returns-in_err-place-clause-kept : goal.returns-in_err-place-clause-kept
-returns-in_err-place-clause-kept g c = then c.in_ok-known.ensures.kept c.in_err-place.ensures.kept
+pub returns-in_err-place : goal.returns-in_err-place
+returns-in_err-place g c =
+    is_read_under (search rules) (then c.in_ok-known.ensures.kept c.in_err-place.ensures.kept) (search rules)
 
-pub returns-then-is_submitting-clause-kept : goal.returns-then-is_submitting-clause-kept
-returns-then-is_submitting-clause-kept g c = then c.in_ok-known.ensures.kept c.in_ok-place.ensures.kept
+pub returns-then-is_submitting : goal.returns-then-is_submitting
+returns-then-is_submitting g c =
+    is_read_under (search rules) (then c.in_ok-known.ensures.kept c.in_ok-place.ensures.kept) (search rules)
 
-pub returns-in-Err-TooManyNeeds-clause-kept : goal.returns-in-Err-TooManyNeeds-clause-kept
-returns-in-Err-TooManyNeeds-clause-kept g c = then c.in_ok-known.ensures.kept c.in_ok-place.ensures.kept
+pub returns-in-Err-TooManyNeeds : goal.returns-in-Err-TooManyNeeds
+returns-in-Err-TooManyNeeds g c = is_read_under (λ trusted x holds lawful. grind (arith, common_steps))
+    (then c.in_ok-known.ensures.kept c.in_ok-place.ensures.kept) (search rules)
 
-pub returns-in_err-left-clause-kept : goal.returns-in_err-left-clause-kept
-returns-in_err-left-clause-kept g c =
-    then (then c.in_ok-known.ensures.kept c.in_ok-place.ensures.kept) c.in_err-left.ensures.kept
+pub returns-in_err-left : goal.returns-in_err-left
+returns-in_err-left g c = is_read_under (search rules)
+    (then (then c.in_ok-known.ensures.kept c.in_ok-place.ensures.kept) c.in_err-left.ensures.kept) (search rules)
 
-pub returns-in_err-copy-clause-kept : goal.returns-in_err-copy-clause-kept
-returns-in_err-copy-clause-kept g c =
-    then (then c.in_ok-known.ensures.kept c.in_ok-place.ensures.kept) c.in_ok-left.ensures.kept
+pub returns-in_err-copy : goal.returns-in_err-copy
+returns-in_err-copy g c = is_read_under (search rules)
+    (then (then c.in_ok-known.ensures.kept c.in_ok-place.ensures.kept) c.in_ok-left.ensures.kept) (search rules)
 
-pub returns-in_err-edits-clause-kept : goal.returns-in_err-edits-clause-kept
-returns-in_err-edits-clause-kept g c =
-    then (then c.in_ok-known.ensures.kept c.in_ok-place.ensures.kept) c.in_ok-left.ensures.kept
-
-pub returns-clause-kept : goal.returns-clause-kept
-returns-clause-kept g c =
-    then (then c.in_ok-known.ensures.kept c.in_ok-place.ensures.kept) c.in_ok-left.ensures.kept
+pub returns-in_err-edits : goal.returns-in_err-edits
+returns-in_err-edits g c = is_read_under (search rules)
+    (then (then c.in_ok-known.ensures.kept c.in_ok-place.ensures.kept) c.in_ok-left.ensures.kept) (search rules)

@@ -1,17 +1,18 @@
-use Rattle.std.proofs.Common.{◌≡◌, ◌∙◌, ◌<◌, ◌+◌, ◌-◌, Some, refl, sym, ap, subst, arith}
+use Rattle.std.proofs.Common.{◌≡◌, ◌∙◌, ◌<◌, ◌+◌, ◌-◌, Some, refl, sym, ap, subst, arith, rules}
 use Rattle.std.specs.Prelude.{option_map, unwrap_or, min}
 use Rattle.gate_types.specs.Counters.{Drawn, last_number}
 use Rattle.gate_types.specs.declared.deliveries.Reply.TheVariants as reply
 use Rattle.gate_types.specs.Choice.{choose}
 use Rattle.gate_types.specs.Step.{with_build, settled_step}
+use Rattle.gate_book_trait.proofs.ReadingLemmas.{is_read_under}
 use Rattle.gate_reads.specs.Moves.{Moves}
 use Rattle.gate_reads.specs.NextBuild.{with_number}
 use Rattle.gate_ruling.proofs.Drawn.{build_past}
 use Rattle.gate_ruling.proofs.Taken.{choice, some_choice, taken_raw, taken_moves}
 use Rattle.gate_ruling.proofs.kinds.take.take.Goals as goal
 
-pub returns-then-drawn-ge-LAST_NUMBER-clause-raw : goal.returns-then-drawn-ge-LAST_NUMBER-clause-raw
-returns-then-drawn-ge-LAST_NUMBER-clause-raw g c trusted x holds lawful =
+pub returns-then-drawn-ge-LAST_NUMBER : goal.returns-then-drawn-ge-LAST_NUMBER
+returns-then-drawn-ge-LAST_NUMBER g c = is_read_under (λ trusted x holds lawful.
     let s = c.args.config.now in
     let one = c.in_ok-build.ensures.kept.trusted_before trusted in
     let at_one = c.in_ok-drawn.ensures.kept.holds_on one _ x holds in
@@ -25,10 +26,11 @@ returns-then-drawn-ge-LAST_NUMBER-clause-raw g c trusted x holds lawful =
       ap (settled_step s) (taken_raw s x.state a.0 a.1)
           ∙ build_past s (reply.Build a.0) (with_build a.0 x.state) over,
       refl,
-    )
+    ))
+    (search rules) (search rules)
 
-pub returns-clause-raw : goal.returns-clause-raw
-returns-clause-raw g c trusted x holds lawful =
+pub returns : goal.returns
+returns g c = is_read_under (λ trusted x holds lawful.
     let s = c.args.config.now in
     let b = c.in-Some-2.build in
     let one = c.in_ok-build.ensures.kept.trusted_before trusted in
@@ -50,4 +52,5 @@ returns-clause-raw g c trusted x holds lawful =
       moves = subst (λ es. Moves x es (with_build b x.state)) (sym c.in_ok-edits.ensures)
           (taken_moves s x b lawful.lawful.sound chosen);
       makes_ready = tt;
-    }
+    })
+    (search rules) (search rules)

@@ -4,8 +4,11 @@ use Rattle.gate_types.specs.declared.edits.Edit.{Edit}
 use Rattle.gate_types.specs.declared.deliveries.Delivery.TheVariants as delivery
 use Rattle.gate_types.specs.declared.deliveries.Refusal.TheVariants as refusal
 use Rattle.gate_types.specs.declared.records.Verdict.TheVariants as verdict
+use Rattle.gate_types.specs.State.{known_change}
 use Rattle.gate_types.specs.Admit.{without_ready}
 use Rattle.gate_types.specs.Step.{leave, refused, settled_step, step}
+use Rattle.gate_laws.proofs.RecordedChange.{known_number}
+use Rattle.gate_book_trait.proofs.ReadingLemmas.{is_read_under}
 use Rattle.gate_reads.specs.Moves.{Moves}
 use Rattle.gate_reads.specs.Stands.{QueuesSo}
 use Rattle.gate_reads.proofs.Told.{ready_so}
@@ -15,22 +18,23 @@ use Rattle.gate_ruling.proofs.Withdrawn.{withdrawing, submitting_raw, removed_ra
 use Rattle.gate_ruling.proofs.Withdrawn.{unready_again}
 use Rattle.gate_ruling.proofs.kinds.withdrawn.withdrawn.Goals as goal
 
-pub returns-in-Submitting-clause-raw : goal.returns-in-Submitting-clause-raw
-returns-in-Submitting-clause-raw g c trusted x holds lawful =
+pub returns-in-Submitting : goal.returns-in-Submitting
+returns-in-Submitting g c = is_read_under (λ trusted x holds lawful.
     let s = c.args.config.now in
     let n = c.args.change in
     let r = c.args.revision in
     let one = c.in_ok-queue_place.ensures.kept.trusted_before trusted in
     let at_one = c.in_ok-known.ensures.kept.holds_on one _ x holds in
-    let latest = subst (IsLatest s x n r) c.in-Ok.is (c.in_ok-known.ensures.latest one s x holds lawful) in
+    let latest = subst (IsLatest s x n r) c.in-Ok.is (c.in_ok-known.ensures.found one s x holds lawful) in
     let shown = subst (QueuesSo s x.state n) c.in-Submitting.is
     (c.in_ok-queue_place.ensures.found trusted x at_one lawful) in
     let refuses : step s x.state (delivery.Withdrawn n r) ≡ refused refusal.Submitting =
     ap (settled_step s) (submitting_raw s x.state n r c.in-Ok.known latest.1 shown) in
-    search rules
+    search rules)
+    (search rules) (search rules)
 
-pub returns-in_ok-left-in-Item-clause-raw : goal.returns-in_ok-left-in-Item-clause-raw
-returns-in_ok-left-in-Item-clause-raw g c trusted x holds lawful =
+pub returns-in-Item : goal.returns-in-Item
+returns-in-Item g c = is_read_under (λ trusted x holds lawful.
     let s = c.args.config.now in
     let n = c.args.change in
     let r = c.args.revision in
@@ -38,7 +42,7 @@ returns-in_ok-left-in-Item-clause-raw g c trusted x holds lawful =
     let one = c.in_ok-queue_place.ensures.kept.trusted_before two in
     let at_one = c.in_ok-known.ensures.kept.holds_on one _ x holds in
     let at_two = c.in_ok-queue_place.ensures.kept.holds_on two _ x at_one in
-    let latest = subst (IsLatest s x n r) c.in-Ok.is (c.in_ok-known.ensures.latest one s x holds lawful) in
+    let latest = subst (IsLatest s x n r) c.in-Ok.is (c.in_ok-known.ensures.found one s x holds lawful) in
     let so = subst (QueuesSo s x.state n) c.in-Item.is (c.in_ok-queue_place.ensures.found two x at_one lawful) in
     let left = c.in_ok-left-in-Item.left in
     record {
@@ -49,10 +53,11 @@ returns-in_ok-left-in-Item-clause-raw g c trusted x holds lawful =
           (c.in_ok-left-in-Item.ensures.touched trusted x at_two lawful n so.1) refl refl (λ i. refl);
       moves = c.in_ok-left-in-Item.ensures.moves trusted x at_two lawful n so.1;
       makes_ready = tt;
-    }
+    })
+    (search rules) (search rules)
 
-pub returns-in_ok-put_anew-in-Some-clause-raw : goal.returns-in_ok-put_anew-in-Some-clause-raw
-returns-in_ok-put_anew-in-Some-clause-raw g c trusted x holds lawful =
+pub returns-in-Some : goal.returns-in-Some
+returns-in-Some g c = is_read_under (λ trusted x holds lawful.
     let s = c.args.config.now in
     let n = c.args.change in
     let r = c.args.revision in
@@ -61,7 +66,7 @@ returns-in_ok-put_anew-in-Some-clause-raw g c trusted x holds lawful =
     let one = c.in_ok-queue_place.ensures.kept.trusted_before two in
     let at_one = c.in_ok-known.ensures.kept.holds_on one _ x holds in
     let at_two = c.in_ok-queue_place.ensures.kept.holds_on two _ x at_one in
-    let latest = subst (IsLatest s x n r) c.in-Ok.is (c.in_ok-known.ensures.latest one s x holds lawful) in
+    let latest = subst (IsLatest s x n r) c.in-Ok.is (c.in_ok-known.ensures.found one s x holds lawful) in
     let so = subst (QueuesSo s x.state n) c.in-Outside.is (c.in_ok-queue_place.ensures.found two x at_one lawful) in
     let ready = ready_so x.state n
     ∙ ap is_some (sym (c.in_ok-approval-in-Outside.ensures.found trusted _ x at_two lawful) ∙ c.in-Some.is) in
@@ -74,13 +79,15 @@ returns-in_ok-put_anew-in-Some-clause-raw g c trusted x holds lawful =
       accepted = recorded_raw s x.state n r k latest.1 so.0 so.1 ready;
       acts = refl;
       touches = in_no_queue x.state n so.1;
-      moves = subst (Moves x c.in_ok-put_anew-in-Some.field-0.items) (unready_again x.state n k rises latest.0)
-          (c.in_ok-put_anew-in-Some.ensures x x.state rises none);
+      moves = subst (Moves x c.in_ok-set_at-in-Some.field-0.items) (unready_again x.state n k rises latest.0)
+          (c.in_ok-set_at-in-Some.ensures x x.state rises
+          (ap (known_change x.state) (known_number x.state n k latest.0) ∙ latest.0) none);
       makes_ready = tt;
-    }
+    })
+    (search rules) (search rules)
 
-pub returns-in-None-clause-raw : goal.returns-in-None-clause-raw
-returns-in-None-clause-raw g c trusted x holds lawful =
+pub returns : goal.returns
+returns g c = is_read_under (λ trusted x holds lawful.
     let s = c.args.config.now in
     let n = c.args.change in
     let r = c.args.revision in
@@ -88,16 +95,18 @@ returns-in-None-clause-raw g c trusted x holds lawful =
     let one = c.in_ok-queue_place.ensures.kept.trusted_before two in
     let at_one = c.in_ok-known.ensures.kept.holds_on one _ x holds in
     let at_two = c.in_ok-queue_place.ensures.kept.holds_on two _ x at_one in
-    let latest = subst (IsLatest s x n r) c.in-Ok.is (c.in_ok-known.ensures.latest one s x holds lawful) in
+    let latest = subst (IsLatest s x n r) c.in-Ok.is (c.in_ok-known.ensures.found one s x holds lawful) in
     let so = subst (QueuesSo s x.state n) c.in-Outside.is (c.in_ok-queue_place.ensures.found two x at_one lawful) in
     let unready = ready_so x.state n
     ∙ ap is_some (sym (c.in_ok-approval-in-Outside.ensures.found trusted _ x at_two lawful) ∙ c.in-None.is) in
-    nowhere_raw s x.state n r c.in-Ok.known latest.1 so.0 so.1 unready
+    nowhere_raw s x.state n r c.in-Ok.known latest.1 so.0 so.1 unready)
+    (search rules) (search rules)
 
-pub returns-in-Err-clause-raw : goal.returns-in-Err-clause-raw
-returns-in-Err-clause-raw g c trusted x holds lawful =
+pub returns-in-Err : goal.returns-in-Err
+returns-in-Err g c = is_read_under (λ trusted x holds lawful.
     let s = c.args.config.now in
     let n = c.args.change in
     let r = c.args.revision in
-    subst (IsLatest s x n r) c.in-Err.is (c.in_ok-known.ensures.latest trusted s x holds lawful)
-    (withdrawing s x.state n) (delivery.Withdrawn n r) refl
+    subst (IsLatest s x n r) c.in-Err.is (c.in_ok-known.ensures.found trusted s x holds lawful)
+    (withdrawing s x.state n) (delivery.Withdrawn n r) refl)
+    (search rules) (search rules)
