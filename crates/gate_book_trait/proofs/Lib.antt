@@ -3,3 +3,4 @@ pub mod Padding
 pub mod ReportLines
 pub mod ReadLemmas
 pub mod KeptLemmas
+pub mod ReadingLemmas

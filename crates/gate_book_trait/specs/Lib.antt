@@ -1,5 +1,6 @@
 pub mod Reads
 pub mod Kept
+pub mod Reading
 pub mod Faults
 pub mod Text
 pub mod Writes

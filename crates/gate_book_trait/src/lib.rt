@@ -1,5 +1,5 @@
-//! The trait `Book`: what keeps a gate's content, asked by key and changed by edits; with its faults, and the lines of a
-//! history.
+//! The trait `Book`: what keeps a gate's content, asked by key and changed by edits; with its faults, and the lines of
+//! a history.
 //!
 //! ```text
 //! let item = book.next_item(&queue, above)?;

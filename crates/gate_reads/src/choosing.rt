@@ -1,10 +1,10 @@
 //! The build that a worker is given next.
-ghost use Rattle.std.specs.Prelude.{◌≡◌, ◌==◌, ◌||◌, ◌++◌, ◌∷◌, [], nat_lt, IfOk, IfErr, OnOk, Some, if◌then◌else◌};
+ghost use Rattle.std.specs.Prelude.{◌≡◌, ◌==◌, ◌||◌, ◌++◌, ◌∷◌, [], nat_lt, IfOk, OnOk, Some, if◌then◌else◌};
 ghost use Rattle.std.specs.Prelude.{option_map, slice_get, length};
 ghost use Rattle.gate_types.specs.State.{Queue};
 ghost use Rattle.gate_types.specs.Choice.{choices, choose};
 ghost use Rattle.gate_book_trait.specs.Faults.{MayAnswer};
-ghost use Rattle.gate_book_trait.specs.Kept.{OfHeldUnder, IsKept};
+ghost use Rattle.gate_book_trait.specs.Reading.{IsReadUnder};
 ghost use Rattle.gate_book_trait.specs.Reads.{queue_named};
 ghost use Rattle.gate_reads.specs.NextBuild.{with_number};
 
@@ -55,11 +55,10 @@ fn first_build<B: Book>(
     window: u32,
     number: BuildNo,
 ) -> Result<Option<Build>, BookFault>
-    ensures found { OfHeldUnder B.IsTrusted B.Holds book.old book.new config.now (λ x. (q : Queue) →
-        queue_named x.state queue.now ≡ Some q → window ≡ q.window →
-        IfOk result (λ found. found ≡ option_map (with_number number) (slice_get (choices config.now x.state q) 0))) }
-    ensures kept { IsKept B.IsTrusted B.Holds B.LeavesOneOf book.old book.new }
-    ensures fault { IfErr result (MayAnswer B.MayFault) }
+    ensures { IsReadUnder B.IsTrusted B.Holds B.LeavesOneOf (MayAnswer B.MayFault) book.old book.new config.now (λ x.
+        (q : Queue) → queue_named x.state queue.now ≡ Some q → window ≡ q.window →
+        IfOk result (λ found. found
+        ≡ option_map (with_number number) (slice_get (choices config.now x.state q) 0))) result }
 {
     let mut ahead = Sequence::new(alloc);
     let mut above = 0;
@@ -88,11 +87,10 @@ fn build_of_queue<B: Book>(
     queue: &Name,
     number: BuildNo,
 ) -> Result<Option<Build>, BookFault>
-    ensures found { OfHeldUnder B.IsTrusted B.Holds book.old book.new config.now (λ x. (q : Queue) →
-        queue_named x.state queue.now ≡ Some q →
-        IfOk result (λ found. found ≡ option_map (with_number number) (slice_get (choices config.now x.state q) 0))) }
-    ensures kept { IsKept B.IsTrusted B.Holds B.LeavesOneOf book.old book.new }
-    ensures fault { IfErr result (MayAnswer B.MayFault) }
+    ensures { IsReadUnder B.IsTrusted B.Holds B.LeavesOneOf (MayAnswer B.MayFault) book.old book.new config.now (λ x.
+        (q : Queue) → queue_named x.state queue.now ≡ Some q →
+        IfOk result (λ found. found
+        ≡ option_map (with_number number) (slice_get (choices config.now x.state q) 0))) result }
 {
     match book.window(queue)? {
         Some(window) => first_build(alloc, book, config, queue, window, number),
@@ -108,10 +106,8 @@ pub fn next_build<B: Book>(
     config: &Config,
     number: BuildNo,
 ) -> Result<Option<Build>, BookFault>
-    ensures found { OfHeldUnder B.IsTrusted B.Holds book.old book.new config.now (λ x.
-        IfOk result (λ found. found ≡ option_map (with_number number) (choose config.now x.state))) }
-    ensures kept { IsKept B.IsTrusted B.Holds B.LeavesOneOf book.old book.new }
-    ensures fault { IfErr result (MayAnswer B.MayFault) }
+    ensures { IsReadUnder B.IsTrusted B.Holds B.LeavesOneOf (MayAnswer B.MayFault) book.old book.new config.now (λ x.
+        IfOk result (λ found. found ≡ option_map (with_number number) (choose config.now x.state))) result }
 {
     for queue in config.queues.as_slice() {
         if let Some(build) = build_of_queue(alloc, book, config, &queue.name, number)? {

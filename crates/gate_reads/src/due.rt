@@ -1,12 +1,12 @@
 //! The build that is due of one item.
-ghost use Rattle.std.specs.Prelude.{◌≡◌, ◌==◌, IfOk, IfErr, option_map, slice_get};
+ghost use Rattle.std.specs.Prelude.{◌≡◌, ◌==◌, IfOk, option_map, slice_get};
 ghost use Rattle.std.specs.List.{list_any};
 ghost use Rattle.gate_types.specs.State.{Queue};
 ghost use Rattle.gate_types.specs.Line.{Place};
 ghost use Rattle.gate_types.specs.Slot.{is_blocked};
 ghost use Rattle.gate_types.specs.Choice.{builds_for};
 ghost use Rattle.gate_book_trait.specs.Faults.{MayAnswer};
-ghost use Rattle.gate_book_trait.specs.Kept.{OfHeld, OfHeldUnder, IsKept};
+ghost use Rattle.gate_book_trait.specs.Reading.{IsRead, IsReadUnder};
 ghost use Rattle.gate_book_trait.specs.Reads.{landings_before};
 ghost use Rattle.gate_reads.specs.NextBuild.{with_number};
 ghost use Rattle.gate_reads.specs.Parts.{IsTold};
@@ -56,11 +56,9 @@ fn build_on<B: Book>(
     item: &Item,
     job: &Job,
 ) -> Result<Build, BookFault>
-    ensures found { OfHeld B.IsTrusted B.Holds book.old book.new (λ c x.
+    ensures { IsRead B.IsTrusted B.Holds B.LeavesOneOf (MayAnswer B.MayFault) book.old book.new (λ c x.
         let after = landings_before x.state queue.now item.now.serial in
-        IfOk result (λ build. build ≡ build_on number queue.now ahead.now item.now after job.now.name)) }
-    ensures kept { IsKept B.IsTrusted B.Holds B.LeavesOneOf book.old book.new }
-    ensures fault { IfErr result (MayAnswer B.MayFault) }
+        IfOk result (λ build. build ≡ build_on number queue.now ahead.now item.now after job.now.name)) result }
 {
     let after = book.landing_before(queue, item.serial)?;
     let queue = queue.copy()?;
@@ -89,11 +87,9 @@ fn is_blocked<B: Book>(
     ahead: &Sequence<Entry>,
     item: &Item,
 ) -> Result<bool, BookFault>
-    ensures found { OfHeldUnder B.IsTrusted B.Holds book.old book.new config.now (λ x. (q : Queue) (p : Place) →
-        IsBehind config.now x.state queue.now ahead.now item.now q p →
-        IfOk result (λ blocked. blocked ≡ is_blocked p)) }
-    ensures kept { IsKept B.IsTrusted B.Holds B.LeavesOneOf book.old book.new }
-    ensures fault { IfErr result (MayAnswer B.MayFault) }
+    ensures { IsReadUnder B.IsTrusted B.Holds B.LeavesOneOf (MayAnswer B.MayFault) book.old book.new config.now (λ x.
+        (q : Queue) (p : Place) → IsBehind config.now x.state queue.now ahead.now item.now q p →
+        IfOk result (λ blocked. blocked ≡ is_blocked p)) result }
 {
     if !item.failing {
         return Ok(false);
@@ -113,11 +109,10 @@ pub(crate) fn build_of_item<B: Book>(
     ahead: &Sequence<Entry>,
     told: &BookItem,
 ) -> Result<Option<Build>, BookFault>
-    ensures found { OfHeldUnder B.IsTrusted B.Holds book.old book.new config.now (λ x. (q : Queue) (p : Place) →
+    ensures { IsReadUnder B.IsTrusted B.Holds B.LeavesOneOf (MayAnswer B.MayFault) book.old book.new config.now (λ x.
+        (q : Queue) (p : Place) →
         IsBehind config.now x.state queue.now ahead.now told.now.row q p → IsTold x.state told.now →
-        IfOk result (λ found. found ≡ option_map (with_number number) (slice_get (builds_for x.state q p) 0))) }
-    ensures kept { IsKept B.IsTrusted B.Holds B.LeavesOneOf book.old book.new }
-    ensures fault { IfErr result (MayAnswer B.MayFault) }
+        IfOk result (λ found. found ≡ option_map (with_number number) (slice_get (builds_for x.state q p) 0))) result }
 {
     if is_cut(told.fast, false, told.row.failing) {
         return Ok(None);

@@ -1,8 +1,8 @@
 //! The orders that are shown.
-ghost use Rattle.std.specs.Prelude.{◌≡◌, IfOk, IfErr};
+ghost use Rattle.std.specs.Prelude.{◌≡◌, IfOk};
 ghost use Rattle.gate_types.specs.SubmitOrder.{shown_order};
 ghost use Rattle.gate_book_trait.specs.Faults.{MayAnswer};
-ghost use Rattle.gate_book_trait.specs.Kept.{OfHeldUnder, IsKept};
+ghost use Rattle.gate_book_trait.specs.Reading.{IsReadUnder};
 ghost use Rattle.gate_reads.specs.Orders.{order_in, TellsOrder, TellsShown};
 
 use crate::shown::{have_jobs_ended, plan_if_shown};
@@ -21,10 +21,9 @@ pub fn order_of_queue<B: Book>(
     config: &Config,
     queue: &Name,
 ) -> Result<Option<Item>, BookFault>
-    ensures found { OfHeldUnder B.IsTrusted B.Holds book.old book.new config.now (λ x.
-        IfOk result (λ found. TellsOrder config.now x.state queue.now found (order_in config.now x.state queue.now))) }
-    ensures kept { IsKept B.IsTrusted B.Holds B.LeavesOneOf book.old book.new }
-    ensures fault { IfErr result (MayAnswer B.MayFault) }
+    ensures { IsReadUnder B.IsTrusted B.Holds B.LeavesOneOf (MayAnswer B.MayFault) book.old book.new config.now (λ x.
+        IfOk result (λ found. TellsOrder config.now x.state queue.now found
+        (order_in config.now x.state queue.now))) result }
 {
     let mut above = 0;
     while let Some(item) = book.next_item(queue, above)? {
@@ -52,10 +51,8 @@ pub fn shown_order<B: Book>(
     config: &Config,
     number: Serial,
 ) -> Result<Option<ShownItem>, BookFault>
-    ensures found { OfHeldUnder B.IsTrusted B.Holds book.old book.new config.now (λ x.
-        IfOk result (λ found. TellsShown config.now x.state found (shown_order config.now x.state number))) }
-    ensures kept { IsKept B.IsTrusted B.Holds B.LeavesOneOf book.old book.new }
-    ensures fault { IfErr result (MayAnswer B.MayFault) }
+    ensures { IsReadUnder B.IsTrusted B.Holds B.LeavesOneOf (MayAnswer B.MayFault) book.old book.new config.now (λ x.
+        IfOk result (λ found. TellsShown config.now x.state found (shown_order config.now x.state number))) result }
 {
     config.show_sound();
     let Some(item) = book.item(number)? else {

@@ -1,12 +1,12 @@
 //! A queue is read in parts, so that what is asked of a book grows with parts and not with items.
-ghost use Rattle.std.specs.Prelude.{◌≡◌, ◌==◌, ◌<◌, ◌≤◌, nat_lt, drop, length, min, if◌then◌else◌, find, IfOk, IfErr};
+ghost use Rattle.std.specs.Prelude.{◌≡◌, ◌==◌, ◌<◌, ◌≤◌, nat_lt, drop, length, min, if◌then◌else◌, find, IfOk};
 ghost use Rattle.std.specs.Prelude.{IfSome, List, Some, None, option_copied, option_map, slice_get};
 ghost use Rattle.std.specs.List.{prefix_len, take_while, flat_map};
 ghost use Rattle.gate_types.specs.State.{Queue, plan_in};
 ghost use Rattle.gate_types.specs.Line.{Place};
 ghost use Rattle.gate_types.specs.Choice.{builds_for};
 ghost use Rattle.gate_book_trait.specs.Faults.{MayAnswer};
-ghost use Rattle.gate_book_trait.specs.Kept.{OfHeld, OfHeldUnder, IsKept};
+ghost use Rattle.gate_book_trait.specs.Reading.{IsRead, IsReadUnder};
 ghost use Rattle.gate_reads.specs.NextBuild.{with_number};
 ghost use Rattle.gate_reads.specs.Parts.{last_serial, ahead_behind, most_at_once, AreBehind, AreTold, TellsPart};
 
@@ -56,11 +56,9 @@ pub(crate) fn read_part<B: Book>(
     above: u64,
     most: u32,
 ) -> Result<Option<Part>, BookFault>
-    ensures found { OfHeld B.IsTrusted B.Holds book.old book.new (λ c x.
-        IfOk result (TellsPart c x.state queue.now above most)) }
+    ensures reads { IsRead B.IsTrusted B.Holds B.LeavesOneOf (MayAnswer B.MayFault) book.old book.new (λ c x.
+        IfOk result (TellsPart c x.state queue.now above most)) result }
     ensures rises { IfOk result (λ found. IfSome found (λ p. above < p.last)) }
-    ensures kept { IsKept B.IsTrusted B.Holds B.LeavesOneOf book.old book.new }
-    ensures fault { IfErr result (MayAnswer B.MayFault) }
 {
     let items = book.next_items(queue, above, most)?;
     let Some(last) = last_above(items.as_slice(), above) else {
@@ -135,13 +133,12 @@ pub(crate) fn build_of_part<B: Book>(
     ahead: &mut Sequence<Entry>,
     part: &Part,
 ) -> Result<Option<Build>, BookFault>
-    ensures found { OfHeldUnder B.IsTrusted B.Holds book.old book.new config.now (λ x. (q : Queue) (ps : List Place) →
+    ensures reads { IsReadUnder B.IsTrusted B.Holds B.LeavesOneOf (MayAnswer B.MayFault) book.old book.new config.now
+        (λ x. (q : Queue) (ps : List Place) →
         AreBehind config.now x.state queue.now ahead.old part.now.items q ps → AreTold x.state part.now →
         IfOk result (λ found. found
-        ≡ option_map (with_number number) (slice_get (flat_map (builds_for x.state q) ps) 0))) }
+        ≡ option_map (with_number number) (slice_get (flat_map (builds_for x.state q) ps) 0))) result }
     ensures ahead { IfOk result (λ found. found ≡ None → ahead.new ≡ ahead_behind ahead.old part.now.items) }
-    ensures kept { IsKept B.IsTrusted B.Holds B.LeavesOneOf book.old book.new }
-    ensures fault { IfErr result (MayAnswer B.MayFault) }
 {
     let mut left = part.builds.as_slice();
     for item in part.items.as_slice() {

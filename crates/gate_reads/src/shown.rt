@@ -5,6 +5,7 @@ ghost use Rattle.gate_types.specs.Line.{Place};
 ghost use Rattle.gate_types.specs.Standing.{are_finished};
 ghost use Rattle.gate_book_trait.specs.Faults.{MayAnswer};
 ghost use Rattle.gate_book_trait.specs.Kept.{OfHeld, OfHeldUnder, IsKept};
+ghost use Rattle.gate_book_trait.specs.Reading.{IsReadUnder};
 ghost use Rattle.gate_book_trait.specs.Reads.{live_builds};
 ghost use Rattle.gate_reads.specs.Places.{IsAt, is_shown};
 
@@ -46,11 +47,9 @@ pub(crate) fn have_jobs_ended<B: Book>(
     config: &Config,
     item: &Item,
 ) -> Result<bool, BookFault>
-    ensures found { OfHeldUnder B.IsTrusted B.Holds book.old book.new config.now (λ x. (p : Place) →
-        IsAt config.now x.state item.now p → item.now.failing ≡ false →
-        IfOk result (λ ended. ended ≡ are_finished x.state.builds p)) }
-    ensures kept { IsKept B.IsTrusted B.Holds B.LeavesOneOf book.old book.new }
-    ensures fault { IfErr result (MayAnswer B.MayFault) }
+    ensures { IsReadUnder B.IsTrusted B.Holds B.LeavesOneOf (MayAnswer B.MayFault) book.old book.new config.now (λ x.
+        (p : Place) → IsAt config.now x.state item.now p → item.now.failing ≡ false →
+        IfOk result (λ ended. ended ≡ are_finished x.state.builds p)) result }
 {
     let builds = book.live_builds(item.serial)?;
     let plan = plan_if_ended(alloc, book, config, item, builds.as_slice())?;

@@ -1,7 +1,7 @@
 //! Where a change stands.
-ghost use Rattle.std.specs.Prelude.{IfOk, IfErr};
+ghost use Rattle.std.specs.Prelude.{IfOk};
 ghost use Rattle.gate_book_trait.specs.Faults.{MayAnswer};
-ghost use Rattle.gate_book_trait.specs.Kept.{OfHeldUnder, IsKept};
+ghost use Rattle.gate_book_trait.specs.Reading.{IsReadUnder};
 ghost use Rattle.gate_reads.specs.Stands.{StandsSo, QueuesSo};
 
 use crate::shown::plan_if_shown;
@@ -30,10 +30,8 @@ pub fn stand_of<B: Book>(
     config: &Config,
     change: ChangeNo,
 ) -> Result<Stand, BookFault>
-    ensures found { OfHeldUnder B.IsTrusted B.Holds book.old book.new config.now (λ x.
-        IfOk result (StandsSo config.now x.state change)) }
-    ensures kept { IsKept B.IsTrusted B.Holds B.LeavesOneOf book.old book.new }
-    ensures fault { IfErr result (MayAnswer B.MayFault) }
+    ensures { IsReadUnder B.IsTrusted B.Holds B.LeavesOneOf (MayAnswer B.MayFault) book.old book.new config.now (λ x.
+        IfOk result (StandsSo config.now x.state change)) result }
 {
     config.show_sound();
     if let Some(queued) = book.queued(change)? {
@@ -70,10 +68,8 @@ pub fn queue_place<B: Book>(
     config: &Config,
     change: ChangeNo,
 ) -> Result<QueuePlace, BookFault>
-    ensures found { OfHeldUnder B.IsTrusted B.Holds book.old book.new config.now (λ x.
-        IfOk result (QueuesSo config.now x.state change)) }
-    ensures kept { IsKept B.IsTrusted B.Holds B.LeavesOneOf book.old book.new }
-    ensures fault { IfErr result (MayAnswer B.MayFault) }
+    ensures { IsReadUnder B.IsTrusted B.Holds B.LeavesOneOf (MayAnswer B.MayFault) book.old book.new config.now (λ x.
+        IfOk result (QueuesSo config.now x.state change)) result }
 {
     config.show_sound();
     let Some(queued) = book.queued(change)? else {

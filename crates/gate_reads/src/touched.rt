@@ -1,7 +1,7 @@
 //! The one item that a delivery touches.
-ghost use Rattle.std.specs.Prelude.{IfOk, IfErr};
+ghost use Rattle.std.specs.Prelude.{IfOk};
 ghost use Rattle.gate_book_trait.specs.Faults.{MayAnswer};
-ghost use Rattle.gate_book_trait.specs.Kept.{OfHeld, IsKept};
+ghost use Rattle.gate_book_trait.specs.Reading.{IsRead};
 ghost use Rattle.gate_reads.specs.Touches.{AreFigures};
 
 use gate_book_trait::{Book, BookFault};
@@ -29,9 +29,8 @@ pub struct QueueFigures {
 
 /// The figures of a queue.
 pub fn figures_of<B: Book>(book: &mut B, queue: &Name) -> Result<QueueFigures, BookFault>
-    ensures found { OfHeld B.IsTrusted B.Holds book.old book.new (λ c x. IfOk result (AreFigures x.state queue.now)) }
-    ensures kept { IsKept B.IsTrusted B.Holds B.LeavesOneOf book.old book.new }
-    ensures fault { IfErr result (MayAnswer B.MayFault) }
+    ensures { IsRead B.IsTrusted B.Holds B.LeavesOneOf (MayAnswer B.MayFault) book.old book.new (λ c x.
+        IfOk result (AreFigures x.state queue.now)) result }
 {
     let window = book.window(queue)?;
     let reports = book.reports(queue)?;

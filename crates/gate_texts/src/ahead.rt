@@ -1,8 +1,8 @@
 //! Whether an item is blocked, asked by key: no queue is gone through.
-ghost use Rattle.std.specs.Prelude.{◌≡◌, IfOk, IfErr};
+ghost use Rattle.std.specs.Prelude.{◌≡◌, IfOk};
 ghost use Rattle.std.specs.List.{list_all};
 ghost use Rattle.gate_book_trait.specs.Faults.{MayAnswer};
-ghost use Rattle.gate_book_trait.specs.Kept.{OfHeld, IsKept};
+ghost use Rattle.gate_book_trait.specs.Reading.{IsRead};
 ghost use Rattle.gate_texts.specs.Ahead as told;
 
 use gate_book_trait::{Book, BookFault, QueuedItem};
@@ -31,10 +31,8 @@ fn is_met<B: Book>(
     serial: Serial,
     need: ChangeNo,
 ) -> Result<bool, BookFault>
-    ensures found { OfHeld B.IsTrusted B.Holds book.old book.new (λ c x.
-        IfOk result (λ met. met ≡ told.is_met c x.state queue.now serial need)) }
-    ensures kept { IsKept B.IsTrusted B.Holds B.LeavesOneOf book.old book.new }
-    ensures fault { IfErr result (MayAnswer B.MayFault) }
+    ensures { IsRead B.IsTrusted B.Holds B.LeavesOneOf (MayAnswer B.MayFault) book.old book.new (λ c x.
+        IfOk result (λ met. met ≡ told.is_met c x.state queue.now serial need)) result }
 {
     let known = book.change(need)?;
     let other = book.queued(need)?;
@@ -48,10 +46,8 @@ fn are_met<B: Book>(
     serial: Serial,
     needs: &[ChangeNo],
 ) -> Result<bool, BookFault>
-    ensures found { OfHeld B.IsTrusted B.Holds book.old book.new (λ c x.
-        IfOk result (λ met. met ≡ list_all (told.is_met c x.state queue.now serial) needs.now)) }
-    ensures kept { IsKept B.IsTrusted B.Holds B.LeavesOneOf book.old book.new }
-    ensures fault { IfErr result (MayAnswer B.MayFault) }
+    ensures { IsRead B.IsTrusted B.Holds B.LeavesOneOf (MayAnswer B.MayFault) book.old book.new (λ c x.
+        IfOk result (λ met. met ≡ list_all (told.is_met c x.state queue.now serial) needs.now)) result }
 {
     let mut met = true;
     for need in needs {
@@ -62,10 +58,8 @@ fn are_met<B: Book>(
 
 /// Whether an item is blocked: a need of its change has neither landed nor is an item ahead.
 pub(crate) fn is_blocked<B: Book>(book: &mut B, queued: &QueuedItem) -> Result<bool, BookFault>
-    ensures found { OfHeld B.IsTrusted B.Holds book.old book.new (λ c x.
-        IfOk result (λ blocked. blocked ≡ told.is_blocked_by_key c x.state queued.now)) }
-    ensures kept { IsKept B.IsTrusted B.Holds B.LeavesOneOf book.old book.new }
-    ensures fault { IfErr result (MayAnswer B.MayFault) }
+    ensures { IsRead B.IsTrusted B.Holds B.LeavesOneOf (MayAnswer B.MayFault) book.old book.new (λ c x.
+        IfOk result (λ blocked. blocked ≡ told.is_blocked_by_key c x.state queued.now)) result }
 {
     let Some(change) = book.change(queued.item.change)? else {
         return Ok(false);

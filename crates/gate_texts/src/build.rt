@@ -1,9 +1,9 @@
 //! A build as a worker reads it.
-ghost use Rattle.std.specs.Prelude.{◌≡◌, ◌++◌, if◌then◌else◌, codes, decimal, IfOk, IfErr, option_map, string_bytes};
+ghost use Rattle.std.specs.Prelude.{◌≡◌, ◌++◌, if◌then◌else◌, codes, decimal, IfOk, option_map, string_bytes};
 ghost use Rattle.gate_types.specs.BuildText.{build_text, outcome_word};
 ghost use Rattle.gate_types.specs.Step.{build_of};
 ghost use Rattle.gate_book_trait.specs.Faults.{MayAnswer};
-ghost use Rattle.gate_book_trait.specs.Kept.{OfHeld, IsKept};
+ghost use Rattle.gate_book_trait.specs.Reading.{IsRead};
 
 use gate_book_trait::{Book, BookFault};
 use gate_types::names::{NoMemory, Text};
@@ -55,10 +55,8 @@ pub fn build_text<B: Book>(
     book: &mut B,
     number: BuildNo,
 ) -> Result<Option<Text>, BookFault>
-    ensures found { OfHeld B.IsTrusted B.Holds book.old book.new (λ c x.
-        IfOk result (λ found. found ≡ option_map build_text (build_of x.state number))) }
-    ensures kept { IsKept B.IsTrusted B.Holds B.LeavesOneOf book.old book.new }
-    ensures fault { IfErr result (MayAnswer B.MayFault) }
+    ensures { IsRead B.IsTrusted B.Holds B.LeavesOneOf (MayAnswer B.MayFault) book.old book.new (λ c x.
+        IfOk result (λ found. found ≡ option_map build_text (build_of x.state number))) result }
 {
     match book.build(number)? {
         Some(build) => Ok(Some(Text::new(text_of(alloc, &build)?))),

@@ -1,10 +1,10 @@
 //! What is known of a change: where it stands, its needs, what has become of it.
-ghost use Rattle.std.specs.Prelude.{◌≡◌, [], IfOk, IfErr, map, option_map, string_bytes};
+ghost use Rattle.std.specs.Prelude.{◌≡◌, [], IfOk, map, option_map, string_bytes};
 ghost use Rattle.gate_types.specs.State.{known_change};
 ghost use Rattle.gate_types.specs.JsonText.{joined};
 ghost use Rattle.gate_archive.specs.ChangeText.{need_word, need_piece, change_text_in, change_text};
 ghost use Rattle.gate_book_trait.specs.Faults.{MayAnswer};
-ghost use Rattle.gate_book_trait.specs.Kept.{OfHeld, OfHeldUnder, IsKept};
+ghost use Rattle.gate_book_trait.specs.Reading.{IsRead, IsReadUnder};
 ghost use Rattle.gate_texts.specs.Changes as told;
 
 use crate::values::{in_quotes, number_text, push_entry};
@@ -25,10 +25,8 @@ struct Standing {
 }
 
 fn standing_of<B: Book>(book: &mut B, change: ChangeNo) -> Result<Standing, BookFault>
-    ensures found { OfHeld B.IsTrusted B.Holds book.old book.new (λ c x.
-        IfOk result (λ standing. standing ≡ told.standing_of c x.state change)) }
-    ensures kept { IsKept B.IsTrusted B.Holds B.LeavesOneOf book.old book.new }
-    ensures fault { IfErr result (MayAnswer B.MayFault) }
+    ensures { IsRead B.IsTrusted B.Holds B.LeavesOneOf (MayAnswer B.MayFault) book.old book.new (λ c x.
+        IfOk result (λ standing. standing ≡ told.standing_of c x.state change)) result }
 {
     let approval = book.approval(change)?;
     let queued = book.queued(change)?;
@@ -82,10 +80,8 @@ fn need_told(
 }
 
 fn need_text<B: Book>(alloc: Global, book: &mut B, need: ChangeNo) -> Result<String, BookFault>
-    ensures found { OfHeld B.IsTrusted B.Holds book.old book.new (λ c x.
-        IfOk result (λ text. string_bytes text ≡ need_piece c x.state need [])) }
-    ensures kept { IsKept B.IsTrusted B.Holds B.LeavesOneOf book.old book.new }
-    ensures fault { IfErr result (MayAnswer B.MayFault) }
+    ensures { IsRead B.IsTrusted B.Holds B.LeavesOneOf (MayAnswer B.MayFault) book.old book.new (λ c x.
+        IfOk result (λ text. string_bytes text ≡ need_piece c x.state need [])) result }
 {
     let standing = standing_of(book, need)?;
     let known = book.change(need)?;
@@ -94,10 +90,8 @@ fn need_text<B: Book>(alloc: Global, book: &mut B, need: ChangeNo) -> Result<Str
 
 /// The needs of a change, with commas between.
 fn needs_text<B: Book>(alloc: Global, book: &mut B, needs: &[ChangeNo]) -> Result<String, BookFault>
-    ensures found { OfHeld B.IsTrusted B.Holds book.old book.new (λ c x.
-        IfOk result (λ list. string_bytes list ≡ joined (map (need_piece c x.state) needs.now) [])) }
-    ensures kept { IsKept B.IsTrusted B.Holds B.LeavesOneOf book.old book.new }
-    ensures fault { IfErr result (MayAnswer B.MayFault) }
+    ensures { IsRead B.IsTrusted B.Holds B.LeavesOneOf (MayAnswer B.MayFault) book.old book.new (λ c x.
+        IfOk result (λ list. string_bytes list ≡ joined (map (need_piece c x.state) needs.now) [])) result }
 {
     let mut list = String::new(alloc);
     for need in needs {
@@ -143,10 +137,8 @@ fn text_in<B: Book>(
     change: &Change,
     queue: &Name,
 ) -> Result<Text, BookFault>
-    ensures found { OfHeld B.IsTrusted B.Holds book.old book.new (λ c x.
-        IfOk result (λ text. text ≡ change_text_in c x.state change.now queue.now)) }
-    ensures kept { IsKept B.IsTrusted B.Holds B.LeavesOneOf book.old book.new }
-    ensures fault { IfErr result (MayAnswer B.MayFault) }
+    ensures { IsRead B.IsTrusted B.Holds B.LeavesOneOf (MayAnswer B.MayFault) book.old book.new (λ c x.
+        IfOk result (λ text. text ≡ change_text_in c x.state change.now queue.now)) result }
 {
     let standing = standing_of(book, change.number)?;
     let full = MOST_ITEMS <= book.item_count(queue)?;
@@ -163,10 +155,9 @@ pub fn change_text<B: Book>(
     config: &Config,
     number: ChangeNo,
 ) -> Result<Option<Text>, BookFault>
-    ensures found { OfHeldUnder B.IsTrusted B.Holds book.old book.new config.now (λ x.
-        IfOk result (λ found. found ≡ option_map (change_text config.now x.state) (known_change x.state number))) }
-    ensures kept { IsKept B.IsTrusted B.Holds B.LeavesOneOf book.old book.new }
-    ensures fault { IfErr result (MayAnswer B.MayFault) }
+    ensures { IsReadUnder B.IsTrusted B.Holds B.LeavesOneOf (MayAnswer B.MayFault) book.old book.new config.now (λ x.
+        IfOk result (λ found. found
+        ≡ option_map (change_text config.now x.state) (known_change x.state number))) result }
 {
     let Some(change) = book.change(number)? else {
         return Ok(None);

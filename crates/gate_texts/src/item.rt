@@ -1,9 +1,9 @@
 //! An item, there or gone, with its builds.
-ghost use Rattle.std.specs.Prelude.{◌≡◌, [], Some, None, IfOk, IfErr, map, string_bytes};
+ghost use Rattle.std.specs.Prelude.{◌≡◌, [], Some, None, IfOk, map, string_bytes};
 ghost use Rattle.gate_types.specs.JsonText.{joined};
 ghost use Rattle.gate_archive.specs.ItemText.{queued_at, summary_piece, item_text};
 ghost use Rattle.gate_book_trait.specs.Faults.{MayAnswer};
-ghost use Rattle.gate_book_trait.specs.Kept.{OfHeld, OfHeldUnder, IsKept};
+ghost use Rattle.gate_book_trait.specs.Reading.{IsRead, IsReadUnder};
 ghost use Rattle.gate_texts.specs.Items as told;
 
 use crate::ahead::is_blocked;
@@ -56,10 +56,8 @@ fn jobs_text(alloc: Global, cut: bool, builds: &[Build], jobs: &[Job]) -> Result
 
 /// The jobs of an item that is queued, each with what it has come to.
 fn item_jobs<B: Book>(alloc: Global, book: &mut B, queued: &QueuedItem) -> Result<String, BookFault>
-    ensures found { OfHeld B.IsTrusted B.Holds book.old book.new (λ c x.
-        IfOk result (λ s. string_bytes s ≡ told.jobs_by_key c x.state queued.now [])) }
-    ensures kept { IsKept B.IsTrusted B.Holds B.LeavesOneOf book.old book.new }
-    ensures fault { IfErr result (MayAnswer B.MayFault) }
+    ensures { IsRead B.IsTrusted B.Holds B.LeavesOneOf (MayAnswer B.MayFault) book.old book.new (λ c x.
+        IfOk result (λ s. string_bytes s ≡ told.jobs_by_key c x.state queued.now [])) result }
 {
     let blocked = is_blocked(book, queued)?;
     let plan = plan_of(alloc, book, queued.item.serial)?;
@@ -74,10 +72,8 @@ fn item_jobs<B: Book>(alloc: Global, book: &mut B, queued: &QueuedItem) -> Resul
 
 /// The item of a serial, and its queue. A change is that of one item alone, so this is the item of its change.
 fn queued_at<B: Book>(book: &mut B, serial: Serial) -> Result<Option<QueuedItem>, BookFault>
-    ensures found { OfHeld B.IsTrusted B.Holds book.old book.new (λ c x.
-        IfOk result (λ found. found ≡ queued_at c x.state serial)) }
-    ensures kept { IsKept B.IsTrusted B.Holds B.LeavesOneOf book.old book.new }
-    ensures fault { IfErr result (MayAnswer B.MayFault) }
+    ensures { IsRead B.IsTrusted B.Holds B.LeavesOneOf (MayAnswer B.MayFault) book.old book.new (λ c x.
+        IfOk result (λ found. found ≡ queued_at c x.state serial)) result }
 {
     match book.item(serial)? {
         Some(item) => Ok(book.queued(item.change)?),
@@ -130,10 +126,8 @@ fn told_item<B: Archive>(
     config: &Config,
     serial: Serial,
 ) -> Result<Option<WrittenItem>, BookFault>
-    ensures found { OfHeldUnder B.IsTrusted B.Holds book.old book.new config.now (λ x.
-        IfOk result (λ found. told.TellsItem config.now x.state serial found)) }
-    ensures kept { IsKept B.IsTrusted B.Holds B.LeavesOneOf book.old book.new }
-    ensures fault { IfErr result (MayAnswer B.MayFault) }
+    ensures { IsReadUnder B.IsTrusted B.Holds B.LeavesOneOf (MayAnswer B.MayFault) book.old book.new config.now (λ x.
+        IfOk result (λ found. told.TellsItem config.now x.state serial found)) result }
 {
     config.show_sound();
     if let Some(queued) = queued_at(book, serial)? {
@@ -217,10 +211,8 @@ pub fn item_text<B: Archive>(
     config: &Config,
     serial: Serial,
 ) -> Result<Option<Text>, BookFault>
-    ensures found { OfHeldUnder B.IsTrusted B.Holds book.old book.new config.now (λ x.
-        IfOk result (λ found. found ≡ item_text config.now x.state serial)) }
-    ensures kept { IsKept B.IsTrusted B.Holds B.LeavesOneOf book.old book.new }
-    ensures fault { IfErr result (MayAnswer B.MayFault) }
+    ensures { IsReadUnder B.IsTrusted B.Holds B.LeavesOneOf (MayAnswer B.MayFault) book.old book.new config.now (λ x.
+        IfOk result (λ found. found ≡ item_text config.now x.state serial)) result }
 {
     let Some(item) = told_item(alloc, book, config, serial)? else {
         return Ok(None);

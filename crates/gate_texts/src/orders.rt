@@ -1,9 +1,9 @@
 //! The orders that are shown, as a text.
-ghost use Rattle.std.specs.Prelude.{◌≡◌, [], IfOk, IfErr, OnOk, option_map, string_bytes};
+ghost use Rattle.std.specs.Prelude.{◌≡◌, [], IfOk, OnOk, option_map, string_bytes};
 ghost use Rattle.gate_types.specs.SubmitOrder.{Order};
 ghost use Rattle.gate_types.specs.OrderList.{shown, order_list_text};
 ghost use Rattle.gate_book_trait.specs.Faults.{MayAnswer};
-ghost use Rattle.gate_book_trait.specs.Kept.{OfHeld, OfHeldUnder, IsKept};
+ghost use Rattle.gate_book_trait.specs.Reading.{IsRead, IsReadUnder};
 ghost use Rattle.gate_types.specs.State.{known_or_closed};
 ghost use Rattle.gate_reads.specs.Orders.{order_in, IsRowOf};
 ghost use Rattle.gate_texts.specs.Listed.{order_piece, with_order};
@@ -45,10 +45,8 @@ fn order_text<B: Book>(
     queue: &Name,
     item: &Item,
 ) -> Result<Text, BookFault>
-    ensures found { OfHeld B.IsTrusted B.Holds book.old book.new (λ c x. (o : Order) →
-        IsRowOf c x.state queue.now item.now o → IfOk result (λ text. text ≡ shown x.state o [])) }
-    ensures kept { IsKept B.IsTrusted B.Holds B.LeavesOneOf book.old book.new }
-    ensures fault { IfErr result (MayAnswer B.MayFault) }
+    ensures { IsRead B.IsTrusted B.Holds B.LeavesOneOf (MayAnswer B.MayFault) book.old book.new (λ c x. (o : Order) →
+        IsRowOf c x.state queue.now item.now o → IfOk result (λ text. text ≡ shown x.state o [])) result }
 {
     let known = book.change(item.change)?;
     let text = text_of(alloc, item, project_of(&known), queue.as_str())?;
@@ -62,11 +60,9 @@ fn order_of<B: Book>(
     config: &Config,
     queue: &Name,
 ) -> Result<Option<Text>, BookFault>
-    ensures found { OfHeldUnder B.IsTrusted B.Holds book.old book.new config.now (λ x.
+    ensures { IsReadUnder B.IsTrusted B.Holds B.LeavesOneOf (MayAnswer B.MayFault) book.old book.new config.now (λ x.
         IfOk result (λ found. found
-        ≡ option_map (λ o. shown x.state o []) (order_in config.now x.state queue.now))) }
-    ensures kept { IsKept B.IsTrusted B.Holds B.LeavesOneOf book.old book.new }
-    ensures fault { IfErr result (MayAnswer B.MayFault) }
+        ≡ option_map (λ o. shown x.state o []) (order_in config.now x.state queue.now))) result }
 {
     match order_of_queue(alloc, book, config, queue)? {
         Some(item) => Ok(Some(order_text(alloc, book, queue, &item)?)),
@@ -85,10 +81,8 @@ fn push_order(list: &mut String, order: &Option<Text>) -> Result<(), NoMemory>
 
 /// The orders that are shown.
 pub fn order_list<B: Book>(alloc: Global, book: &mut B, config: &Config) -> Result<Text, BookFault>
-    ensures found { OfHeldUnder B.IsTrusted B.Holds book.old book.new config.now (λ x.
-        IfOk result (λ text. text ≡ order_list_text config.now x.state)) }
-    ensures kept { IsKept B.IsTrusted B.Holds B.LeavesOneOf book.old book.new }
-    ensures fault { IfErr result (MayAnswer B.MayFault) }
+    ensures { IsReadUnder B.IsTrusted B.Holds B.LeavesOneOf (MayAnswer B.MayFault) book.old book.new config.now (λ x.
+        IfOk result (λ text. text ≡ order_list_text config.now x.state)) result }
 {
     let mut list = String::new(alloc);
     for queue in config.queues.as_slice() {

@@ -1,10 +1,10 @@
 //! The builds that run. However many they are, the first 1,000 are held as a text, and those of one item as builds.
-ghost use Rattle.std.specs.Prelude.{◌≡◌, [], ◌∷◌, ◌++◌, List, Some, IfOk, IfErr, OnOk, string_bytes};
+ghost use Rattle.std.specs.Prelude.{◌≡◌, [], ◌∷◌, ◌++◌, List, Some, IfOk, OnOk, string_bytes};
 ghost use Rattle.gate_types.specs.State.{Queue};
 ghost use Rattle.gate_types.specs.declared.records.Build.{Build};
 ghost use Rattle.gate_archive.specs.RunningBuilds.{running_builds, running_piece, running_text};
 ghost use Rattle.gate_book_trait.specs.Faults.{MayAnswer};
-ghost use Rattle.gate_book_trait.specs.Kept.{OfHeld, OfHeldUnder, IsKept};
+ghost use Rattle.gate_book_trait.specs.Reading.{IsRead, IsReadUnder};
 ghost use Rattle.gate_book_trait.specs.Reads.{queue_named};
 ghost use Rattle.gate_texts.specs.Running as told;
 
@@ -87,11 +87,9 @@ fn push_queue<B: Book>(
     running: &mut Running,
     queue: &Name,
 ) -> Result<(), BookFault>
-    ensures found { OfHeld B.IsTrusted B.Holds book.old book.new (λ c x. (q : Queue) →
+    ensures { IsRead B.IsTrusted B.Holds B.LeavesOneOf (MayAnswer B.MayFault) book.old book.new (λ c x. (q : Queue) →
         queue_named x.state queue.now ≡ Some q → OnOk result ((before : List Build) →
-        told.OfBuilds running.old before → told.OfBuilds running.new (before ++ told.running_in x.state q))) }
-    ensures kept { IsKept B.IsTrusted B.Holds B.LeavesOneOf book.old book.new }
-    ensures fault { IfErr result (MayAnswer B.MayFault) }
+        told.OfBuilds running.old before → told.OfBuilds running.new (before ++ told.running_in x.state q))) result }
 {
     let mut above = 0;
     'along: while let Some(item) = book.next_item(queue, above)? {
@@ -104,10 +102,8 @@ fn push_queue<B: Book>(
 
 /// Those of all queues, in the order of the settings.
 fn running_of<B: Book>(alloc: Global, book: &mut B, config: &Config) -> Result<Running, BookFault>
-    ensures found { OfHeldUnder B.IsTrusted B.Holds book.old book.new config.now (λ x.
-        IfOk result (λ running. told.OfBuilds running (running_builds x.state))) }
-    ensures kept { IsKept B.IsTrusted B.Holds B.LeavesOneOf book.old book.new }
-    ensures fault { IfErr result (MayAnswer B.MayFault) }
+    ensures { IsReadUnder B.IsTrusted B.Holds B.LeavesOneOf (MayAnswer B.MayFault) book.old book.new config.now (λ x.
+        IfOk result (λ running. told.OfBuilds running (running_builds x.state))) result }
 {
     let mut running = Running {
         list: String::new(alloc),
@@ -136,10 +132,8 @@ pub fn running_text<B: Book>(
     book: &mut B,
     config: &Config,
 ) -> Result<Text, BookFault>
-    ensures found { OfHeldUnder B.IsTrusted B.Holds book.old book.new config.now (λ x.
-        IfOk result (λ text. text ≡ running_text x.state)) }
-    ensures kept { IsKept B.IsTrusted B.Holds B.LeavesOneOf book.old book.new }
-    ensures fault { IfErr result (MayAnswer B.MayFault) }
+    ensures { IsReadUnder B.IsTrusted B.Holds B.LeavesOneOf (MayAnswer B.MayFault) book.old book.new config.now (λ x.
+        IfOk result (λ text. text ≡ running_text x.state)) result }
 {
     let running = running_of(alloc, book, config)?;
     Ok(Text::new(text_of(alloc, &running)?))

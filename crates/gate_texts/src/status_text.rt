@@ -1,11 +1,11 @@
 //! The status text.
-ghost use Rattle.std.specs.Prelude.{◌≡◌, ℕ, List, Some, IfOk, IfErr, string_bytes, flat_map};
+ghost use Rattle.std.specs.Prelude.{◌≡◌, ℕ, List, Some, IfOk, string_bytes, flat_map};
 ghost use Rattle.gate_types.specs.State.{Queue, known_or_closed};
 ghost use Rattle.gate_types.specs.Line.{Place};
 ghost use Rattle.gate_types.specs.Standing.{places};
 ghost use Rattle.gate_types.specs.Status.{item_row, status_rows, waiting_row, status_text};
 ghost use Rattle.gate_book_trait.specs.Faults.{MayAnswer};
-ghost use Rattle.gate_book_trait.specs.Kept.{OfHeld, OfHeldUnder, IsKept};
+ghost use Rattle.gate_book_trait.specs.Reading.{IsRead, IsReadUnder};
 ghost use Rattle.gate_book_trait.specs.Reads.{queue_named};
 ghost use Rattle.gate_reads.specs.Places.{IsBehind};
 
@@ -27,11 +27,9 @@ fn item_text<B: Book>(
     ahead: &[Entry],
     item: &Item,
 ) -> Result<String, BookFault>
-    ensures found { OfHeldUnder B.IsTrusted B.Holds book.old book.new config.now (λ x.
+    ensures { IsReadUnder B.IsTrusted B.Holds B.LeavesOneOf (MayAnswer B.MayFault) book.old book.new config.now (λ x.
         (name : List ℕ) (q : Queue) (p : Place) → IsBehind config.now x.state name ahead.now item.now q p →
-        IfOk result (λ text. string_bytes text ≡ item_row x.state.builds p)) }
-    ensures kept { IsKept B.IsTrusted B.Holds B.LeavesOneOf book.old book.new }
-    ensures fault { IfErr result (MayAnswer B.MayFault) }
+        IfOk result (λ text. string_bytes text ≡ item_row x.state.builds p)) result }
 {
     let known = book.change(item.change)?;
     let needs = needs_of(alloc, book, &known)?;
@@ -50,11 +48,9 @@ fn items_text<B: Book>(
     config: &Config,
     queue: &Name,
 ) -> Result<String, BookFault>
-    ensures found { OfHeldUnder B.IsTrusted B.Holds book.old book.new config.now (λ x. (q : Queue) →
-        queue_named x.state queue.now ≡ Some q → IfOk result (λ text.
-        string_bytes text ≡ flat_map (item_row x.state.builds) (places config.now x.state q))) }
-    ensures kept { IsKept B.IsTrusted B.Holds B.LeavesOneOf book.old book.new }
-    ensures fault { IfErr result (MayAnswer B.MayFault) }
+    ensures { IsReadUnder B.IsTrusted B.Holds B.LeavesOneOf (MayAnswer B.MayFault) book.old book.new config.now (λ x.
+        (q : Queue) → queue_named x.state queue.now ≡ Some q → IfOk result (λ text.
+        string_bytes text ≡ flat_map (item_row x.state.builds) (places config.now x.state q))) result }
 {
     let mut text = String::new(alloc);
     let mut ahead = Sequence::new(alloc);
@@ -75,11 +71,9 @@ fn queue_text<B: Book>(
     config: &Config,
     queue: &Name,
 ) -> Result<String, BookFault>
-    ensures found { OfHeldUnder B.IsTrusted B.Holds book.old book.new config.now (λ x. (q : Queue) →
-        queue_named x.state queue.now ≡ Some q →
-        IfOk result (λ text. string_bytes text ≡ status_rows config.now x.state q)) }
-    ensures kept { IsKept B.IsTrusted B.Holds B.LeavesOneOf book.old book.new }
-    ensures fault { IfErr result (MayAnswer B.MayFault) }
+    ensures { IsReadUnder B.IsTrusted B.Holds B.LeavesOneOf (MayAnswer B.MayFault) book.old book.new config.now (λ x.
+        (q : Queue) → queue_named x.state queue.now ≡ Some q →
+        IfOk result (λ text. string_bytes text ≡ status_rows config.now x.state q)) result }
 {
     let Some(window) = book.window(queue)? else {
         return Ok(String::new(alloc));
@@ -93,10 +87,8 @@ fn queue_text<B: Book>(
 
 /// The queues, in the order of the settings.
 fn queues_text<B: Book>(alloc: Global, book: &mut B, config: &Config) -> Result<String, BookFault>
-    ensures found { OfHeldUnder B.IsTrusted B.Holds book.old book.new config.now (λ x. IfOk result (λ text.
-        string_bytes text ≡ flat_map (status_rows config.now x.state) x.state.queues)) }
-    ensures kept { IsKept B.IsTrusted B.Holds B.LeavesOneOf book.old book.new }
-    ensures fault { IfErr result (MayAnswer B.MayFault) }
+    ensures { IsReadUnder B.IsTrusted B.Holds B.LeavesOneOf (MayAnswer B.MayFault) book.old book.new config.now (λ x.
+        IfOk result (λ text. string_bytes text ≡ flat_map (status_rows config.now x.state) x.state.queues)) result }
 {
     let mut text = String::new(alloc);
     for queue in config.queues.as_slice() {
@@ -116,10 +108,8 @@ fn revision_of(change: &Option<Change>) -> u64
 }
 
 fn ready_line<B: Book>(alloc: Global, book: &mut B, ready: &Ready) -> Result<String, BookFault>
-    ensures found { OfHeld B.IsTrusted B.Holds book.old book.new (λ c x.
-        IfOk result (λ text. string_bytes text ≡ waiting_row x.state ready.now)) }
-    ensures kept { IsKept B.IsTrusted B.Holds B.LeavesOneOf book.old book.new }
-    ensures fault { IfErr result (MayAnswer B.MayFault) }
+    ensures { IsRead B.IsTrusted B.Holds B.LeavesOneOf (MayAnswer B.MayFault) book.old book.new (λ c x.
+        IfOk result (λ text. string_bytes text ≡ waiting_row x.state ready.now)) result }
 {
     let known = book.change(ready.change)?;
     Ok(waiting_line(alloc, ready.change, revision_of(&known))?)
@@ -127,10 +117,8 @@ fn ready_line<B: Book>(alloc: Global, book: &mut B, ready: &Ready) -> Result<Str
 
 /// The lines of ready changes.
 fn ready_text<B: Book>(alloc: Global, book: &mut B, ready: &[Ready]) -> Result<String, BookFault>
-    ensures found { OfHeld B.IsTrusted B.Holds book.old book.new (λ c x.
-        IfOk result (λ text. string_bytes text ≡ flat_map (waiting_row x.state) ready.now)) }
-    ensures kept { IsKept B.IsTrusted B.Holds B.LeavesOneOf book.old book.new }
-    ensures fault { IfErr result (MayAnswer B.MayFault) }
+    ensures { IsRead B.IsTrusted B.Holds B.LeavesOneOf (MayAnswer B.MayFault) book.old book.new (λ c x.
+        IfOk result (λ text. string_bytes text ≡ flat_map (waiting_row x.state) ready.now)) result }
 {
     let mut text = String::new(alloc);
     for waiting in ready {
@@ -142,10 +130,8 @@ fn ready_text<B: Book>(alloc: Global, book: &mut B, ready: &[Ready]) -> Result<S
 
 /// The status text.
 pub fn status<B: Book>(alloc: Global, book: &mut B, config: &Config) -> Result<Text, BookFault>
-    ensures found { OfHeldUnder B.IsTrusted B.Holds book.old book.new config.now (λ x.
-        IfOk result (λ text. text ≡ status_text config.now x.state)) }
-    ensures kept { IsKept B.IsTrusted B.Holds B.LeavesOneOf book.old book.new }
-    ensures fault { IfErr result (MayAnswer B.MayFault) }
+    ensures { IsReadUnder B.IsTrusted B.Holds B.LeavesOneOf (MayAnswer B.MayFault) book.old book.new config.now (λ x.
+        IfOk result (λ text. text ≡ status_text config.now x.state)) result }
 {
     let queues = queues_text(alloc, book, config)?;
     let ready = book.ready()?;

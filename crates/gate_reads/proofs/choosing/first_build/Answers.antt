@@ -9,6 +9,7 @@ use Rattle.gate_reads.proofs.Trying.{is_open, tried_front, tried_closed}
 use Rattle.gate_reads.proofs.TryingParts.{asked_fits, asked_above, part_places, part_behind, part_missing, part_here}
 use Rattle.gate_reads.proofs.TryingParts.{part_short, part_next}
 use Rattle.gate_book_trait.proofs.KeptLemmas.{then}
+use Rattle.gate_book_trait.proofs.ReadingLemmas.{is_read_under}
 use Rattle.gate_reads.proofs.choosing.first_build.Goals as goal
 
 pub along-init : goal.along-init
@@ -19,79 +20,76 @@ along-init g c = record {
       (lawful_front c.args.config.now x lawful c.args.queue.now q named) e c.new-ahead.ensures;
 }
 
-pub returns-in_default-clause-found : goal.returns-in_default-clause-found
-returns-in_default-clause-found g c trusted x holds lawful q named e =
+pub returns-in_default : goal.returns-in_default
+returns-in_default g c = is_read_under (λ trusted x holds lawful q named e.
     let config = c.args.config.now in
     let name = c.args.queue.now in
     let most = c.size_of_part-most.result in
-    let start = c.in_ok-part.ensures.kept.trusted_before trusted in
+    let start = c.in_ok-part.ensures.reads.kept.trusted_before trusted in
     let held = c.along.invariant.kept.holds_on start _ x holds in
     let none = subst (TellsPart config x.state name c.along.above most) c.in_default.is
-    (c.in_ok-part.ensures.found trusted _ x held lawful) in
+    (c.in_ok-part.ensures.reads.found trusted _ x held lawful) in
     sym (ap (option_map (with_number c.args.number))
     (part_missing (c.along.invariant.tried start x holds lawful q named e) name named most none
     (asked_above c.args.window c.along.left most (sym c.is_open.ensures ∙ c.along-test.true) c.size_of_part-most.ensures)
-    (asked_fits c.args.window q.window c.along.left most e c.size_of_part-most.ensures)))
+    (asked_fits c.args.window q.window c.along.left most e c.size_of_part-most.ensures))))
+    (search rules) (search rules)
 
-pub returns-in-Some-2-clause-kept : goal.returns-in-Some-2-clause-kept
-returns-in-Some-2-clause-kept g c =
-    then (then c.along.invariant.kept c.in_ok-part.ensures.kept) c.in_ok-build.ensures.kept
-
-pub returns-in-Some-2-clause-found : goal.returns-in-Some-2-clause-found
-returns-in-Some-2-clause-found g c trusted x holds lawful q named e =
+pub returns-in-Some-2 : goal.returns-in-Some-2
+returns-in-Some-2 g c = is_read_under (λ trusted x holds lawful q named e.
     let config = c.args.config.now in
     let name = c.args.queue.now in
     let most = c.size_of_part-most.result in
-    let before = c.in_ok-build.ensures.kept.trusted_before trusted in
-    let start = c.in_ok-part.ensures.kept.trusted_before before in
+    let before = c.in_ok-build.ensures.reads.kept.trusted_before trusted in
+    let start = c.in_ok-part.ensures.reads.kept.trusted_before before in
     let held = c.along.invariant.kept.holds_on start _ x holds in
     let part = subst (TellsPart config x.state name c.along.above most) c.in-Some.is
-    (c.in_ok-part.ensures.found before _ x held lawful) in
+    (c.in_ok-part.ensures.reads.found before _ x held lawful) in
     let tried = c.along.invariant.tried start x holds lawful q named e in
-    let found = c.in_ok-build.ensures.found trusted x (c.in_ok-part.ensures.kept.holds_on before _ x held) lawful q
+    let found = c.in_ok-build.ensures.reads.found trusted x
+    (c.in_ok-part.ensures.reads.kept.holds_on before _ x held) lawful q
     (part_places most tried) (part_behind tried name named most c.in-Some.part.items part.items) part.told in
     part_here tried most (asked_fits c.args.window q.window c.along.left most e c.size_of_part-most.ensures)
-    c.args.number c.in-Some-2.build (sym c.in-Some-2.is ∙ found)
+    c.args.number c.in-Some-2.build (sym c.in-Some-2.is ∙ found))
+    (then (then c.along.invariant.kept c.in_ok-part.ensures.reads.kept) c.in_ok-build.ensures.reads.kept) (search rules)
 
-pub returns-then-is_short-clause-kept : goal.returns-then-is_short-clause-kept
-returns-then-is_short-clause-kept g c =
-    then (then c.along.invariant.kept c.in_ok-part.ensures.kept) c.in_ok-build.ensures.kept
-
-pub returns-then-is_short-clause-found : goal.returns-then-is_short-clause-found
-returns-then-is_short-clause-found g c trusted x holds lawful q named e =
+pub returns-then-is_short : goal.returns-then-is_short
+returns-then-is_short g c = is_read_under (λ trusted x holds lawful q named e.
     let config = c.args.config.now in
     let name = c.args.queue.now in
     let most = c.size_of_part-most.result in
     let rows = c.in-Some.part.items in
-    let before = c.in_ok-build.ensures.kept.trusted_before trusted in
-    let start = c.in_ok-part.ensures.kept.trusted_before before in
+    let before = c.in_ok-build.ensures.reads.kept.trusted_before trusted in
+    let start = c.in_ok-part.ensures.reads.kept.trusted_before before in
     let held = c.along.invariant.kept.holds_on start _ x holds in
     let part = subst (TellsPart config x.state name c.along.above most) c.in-Some.is
-    (c.in_ok-part.ensures.found before _ x held lawful) in
+    (c.in_ok-part.ensures.reads.found before _ x held lawful) in
     let tried = c.along.invariant.tried start x holds lawful q named e in
-    let found = c.in_ok-build.ensures.found trusted x (c.in_ok-part.ensures.kept.holds_on before _ x held) lawful q
+    let found = c.in_ok-build.ensures.reads.found trusted x
+    (c.in_ok-part.ensures.reads.kept.holds_on before _ x held) lawful q
     (part_places most tried) (part_behind tried name named most rows part.items) part.told in
     sym (ap (option_map (with_number c.args.number)) (part_short tried name named most rows part.items
     (ltb-true _ most (sym c.is_short.ensures ∙ c.if-is_short.true))
     (asked_fits c.args.window q.window c.along.left most e c.size_of_part-most.ensures)
-    (none_before (with_number c.args.number) _ (sym found ∙ c.in_default-2.is))))
+    (none_before (with_number c.args.number) _ (sym found ∙ c.in_default-2.is)))))
+    (then (then c.along.invariant.kept c.in_ok-part.ensures.reads.kept) c.in_ok-build.ensures.reads.kept) (search rules)
 
 pub along-preserved : goal.along-preserved
 along-preserved g c = record {
-  kept = then (then c.along.invariant.kept c.in_ok-part.ensures.kept) c.in_ok-build.ensures.kept;
+  kept = then (then c.along.invariant.kept c.in_ok-part.ensures.reads.kept) c.in_ok-build.ensures.reads.kept;
   tried = λ trusted x holds lawful q named e.
       let config = c.args.config.now in
       let name = c.args.queue.now in
       let most = c.size_of_part-most.result in
       let rows = c.in-Some.part.items in
-      let before = c.in_ok-build.ensures.kept.trusted_before trusted in
-      let start = c.in_ok-part.ensures.kept.trusted_before before in
+      let before = c.in_ok-build.ensures.reads.kept.trusted_before trusted in
+      let start = c.in_ok-part.ensures.reads.kept.trusted_before before in
       let held = c.along.invariant.kept.holds_on start _ x holds in
       let part = subst (TellsPart config x.state name c.along.above most) c.in-Some.is
-      (c.in_ok-part.ensures.found before _ x held lawful) in
+      (c.in_ok-part.ensures.reads.found before _ x held lawful) in
       let tried = c.along.invariant.tried start x holds lawful q named e in
-      let found = c.in_ok-build.ensures.found trusted x
-      (c.in_ok-part.ensures.kept.holds_on before _ x held) lawful q (part_places most tried)
+      let found = c.in_ok-build.ensures.reads.found trusted x
+      (c.in_ok-part.ensures.reads.kept.holds_on before _ x held) lawful q (part_places most tried)
       (part_behind tried name named most rows part.items) part.told in
       part_next tried name named most rows part.items
       (ltb-false _ most (sym c.is_short.ensures ∙ c.if-is_short.false))
@@ -101,9 +99,10 @@ along-preserved g c = record {
       c.saturating_sub-left.ensures (c.in_ok-build.ensures.ahead c.in_default-2.is);
 }
 
-pub returns-clause-found : goal.returns-clause-found
-returns-clause-found g c trusted x holds lawful q named e =
+pub returns : goal.returns
+returns g c = is_read_under (λ trusted x holds lawful q named e.
     sym (ap (option_map (with_number c.args.number))
     (tried_closed c.args.config.now x.state q c.along.above c.along.left
     c.along.ahead (c.along.invariant.tried trusted x holds lawful q named e)
-    (ap (λ w. is_open w c.along.left) (sym e) ∙ sym c.is_open.ensures ∙ c.along-test.false)))
+    (ap (λ w. is_open w c.along.left) (sym e) ∙ sym c.is_open.ensures ∙ c.along-test.false))))
+    (search rules) (search rules)

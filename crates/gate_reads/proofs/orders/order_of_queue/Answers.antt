@@ -1,6 +1,7 @@
 use Rattle.std.proofs.Common.{◌∙◌, sym, ap, subst, rules}
 use Rattle.gate_book_trait.specs.Reads.{first_above}
 use Rattle.gate_book_trait.proofs.KeptLemmas.{then}
+use Rattle.gate_book_trait.proofs.ReadingLemmas.{is_read_under}
 use Rattle.gate_reads.specs.Orders.{order_in, TellsOrder}
 use Rattle.gate_reads.proofs.Walking.{lawful_front, rows_are}
 use Rattle.gate_reads.proofs.Passing.{Passed, passed_front, passed_next, passed_here, passed_end, at_here, some_queue}
@@ -14,8 +15,8 @@ loop-item-init g c = record {
       passed_front c.args.config.now x.state q (lawful_front c.args.config.now x lawful c.args.queue.now q named);
 }
 
-pub returns-then-not-item-clause-found : goal.returns-then-not-item-clause-found
-returns-then-not-item-clause-found g c trusted x holds lawful =
+pub returns-then-not-item : goal.returns-then-not-item
+returns-then-not-item g c = is_read_under (λ trusted x holds lawful.
     let s = x.state in
     let config = c.args.config.now in
     let name = c.args.queue.now in
@@ -31,7 +32,8 @@ returns-then-not-item-clause-found g c trusted x holds lawful =
     let ended = c.in_ok-ended.ensures.found trusted x (c.in_ok-item.ensures.kept.holds_on before _ x held) lawful
     here.place (at_here config s name queue.0 row queue.1 here) c.if-not-item.true in
     subst (λ found. TellsOrder config s name found (order_in config s name)) (sym c.then_some.ensures)
-    (tells_here config s name queue.0 row c.in_ok-ended.ended queue.1 here ended)
+    (tells_here config s name queue.0 row c.in_ok-ended.ended queue.1 here ended))
+    (search rules) (search rules)
 
 pub loop-item-preserved : goal.loop-item-preserved
 loop-item-preserved g c = record {
@@ -48,8 +50,8 @@ loop-item-preserved g c = record {
       (c.loop-item.invariant.passed start x holds lawful q named) some c.if-not-item.false);
 }
 
-pub returns-clause-found : goal.returns-clause-found
-returns-clause-found g c trusted x holds lawful =
+pub returns : goal.returns
+returns g c = is_read_under (λ trusted x holds lawful.
     let s = x.state in
     let config = c.args.config.now in
     let name = c.args.queue.now in
@@ -58,4 +60,5 @@ returns-clause-found g c trusted x holds lawful =
     tells_none config s name (λ q named. passed_end config s q c.loop-item.above
     (c.loop-item.invariant.passed start x holds lawful q named)
     (ap (first_above c.loop-item.above) (sym (rows_are config s name q named))
-    ∙ sym (c.in_ok-item.ensures.found trusted _ x held lawful) ∙ c.in_default.is))
+    ∙ sym (c.in_ok-item.ensures.found trusted _ x held lawful) ∙ c.in_default.is)))
+    (search rules) (search rules)

@@ -9,6 +9,7 @@ use Rattle.gate_reads.specs.Places.{IsBehind}
 use Rattle.gate_reads.proofs.Along.{Along, along_front, along_here, along_next, along_end, first_behind, row_at}
 use Rattle.gate_reads.proofs.Along.{told_first}
 use Rattle.gate_book_trait.proofs.KeptLemmas.{then}
+use Rattle.gate_book_trait.proofs.ReadingLemmas.{is_read_under}
 use Rattle.gate_reads.proofs.part.build_of_part.Goals as goal
 
 pub loop-item-init : goal.loop-item-init
@@ -20,8 +21,8 @@ loop-item-init g c = record {
   ahead = search rules;
 }
 
-pub returns-in-Some-clause-found : goal.returns-in-Some-clause-found
-returns-in-Some-clause-found g c trusted x holds lawful q ps h t =
+pub returns-in-Some-clause-reads : goal.returns-in-Some-clause-reads
+returns-in-Some-clause-reads g c = is_read_under (λ trusted x holds lawful q ps h t.
     let config = c.args.config.now in
     let name = c.args.queue.now in
     let items = c.args.part.now.items in
@@ -38,7 +39,8 @@ returns-in-Some-clause-found g c trusted x holds lawful q ps h t =
     let built = c.in_ok-build.ensures.found trusted x held lawful q first.place
     (subst (λ r. IsBehind config x.state name c.loop-item.ahead r q first.place) (sym c.told-told.ensures.row) first.here)
     told in
-    along_here along c.args.number c.in-Some.build (sym c.in-Some.is ∙ built)
+    along_here along c.args.number c.in-Some.build (sym c.in-Some.is ∙ built))
+    (search rules) (search rules)
 
 pub loop-item-preserved : goal.loop-item-preserved
 loop-item-preserved g c =
@@ -68,9 +70,10 @@ loop-item-preserved g c =
           ∙ c.loop-item.invariant.ahead;
     }
 
-pub returns-clause-found : goal.returns-clause-found
-returns-clause-found g c trusted x holds lawful q ps h t =
+pub returns-clause-reads : goal.returns-clause-reads
+returns-clause-reads g c = is_read_under (λ trusted x holds lawful q ps h t.
     sym (ap (option_map (with_number c.args.number))
     (along_end (c.loop-item.invariant.along trusted x holds lawful q ps h t)
     (subst (λ (is : List ItemRow). drop c.loop-item.item-index is ≡ []) c.as_slice-item-items.ensures
-    (drop_all c.loop-item.item-index c.as_slice-item-items.result.now c.loop-item-test.false))))
+    (drop_all c.loop-item.item-index c.as_slice-item-items.result.now c.loop-item-test.false)))))
+    (search rules) (search rules)

@@ -1,11 +1,12 @@
-use Rattle.std.proofs.Common.{[], ◌∙◌, subst}
+use Rattle.std.proofs.Common.{[], ◌∙◌, subst, rules}
 use Rattle.std.specs.Prelude.{string_bytes}
+use Rattle.gate_book_trait.proofs.ReadingLemmas.{is_read_under}
 use Rattle.gate_texts.specs.Items.{TellsItem, item_told}
 use Rattle.gate_texts.proofs.ItemTexts.{item_is_told}
 use Rattle.gate_texts.proofs.item.item_text.Goals as goal
 
-pub returns-clause-found : goal.returns-clause-found
-returns-clause-found g c trusted x holds lawful =
+pub returns : goal.returns
+returns g c = is_read_under (λ trusted x holds lawful.
     let config = c.args.config.now in
     let t = c.in-Some.item in
     let kept = c.in_ok-kept.kept in
@@ -18,4 +19,5 @@ returns-clause-found g c trusted x holds lawful =
     (subst (TellsItem config x.state c.args.serial) c.in-Some.is (c.in_ok-item.ensures.found one x holds lawful))
     (c.as_slice.ensures ∙ c.in_ok-last.ensures.found trusted config x at_two lawful)
     c.in_ok-builds.ensures (c.in_ok-kept.ensures.found two config x at_one lawful)
-    (c.new.ensures ∙ c.in_ok-text.ensures ∙ (λ i. item_told c.args.serial t (c.as_str.ensures.value i) kept []))
+    (c.new.ensures ∙ c.in_ok-text.ensures ∙ (λ i. item_told c.args.serial t (c.as_str.ensures.value i) kept [])))
+    (search rules) (search rules)

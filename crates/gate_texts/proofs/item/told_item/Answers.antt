@@ -1,11 +1,12 @@
-use Rattle.std.proofs.Common.{◌∙◌, sym, ap}
+use Rattle.std.proofs.Common.{◌∙◌, sym, ap, rules}
 use Rattle.std.specs.Prelude.{string_bytes}
+use Rattle.gate_book_trait.proofs.ReadingLemmas.{is_read_under}
 use Rattle.gate_texts.specs.declared.item.WrittenItem.{WrittenItem}
 use Rattle.gate_texts.proofs.ItemTexts.{queued_told, left_told}
 use Rattle.gate_texts.proofs.item.told_item.Goals as goal
 
-pub returns-in-Some-clause-found : goal.returns-in-Some-clause-found
-returns-in-Some-clause-found g c trusted x holds lawful =
+pub returns-in-Some : goal.returns-in-Some
+returns-in-Some g c = is_read_under (λ trusted x holds lawful.
     let config = c.args.config.now in
     let before = c.in_ok-jobs.ensures.kept.trusted_before trusted in
     let held = c.in_ok-queued.ensures.kept.holds_on before config x holds in
@@ -15,10 +16,11 @@ returns-in-Some-clause-found g c trusted x holds lawful =
     (sym c.in-Some.is ∙ c.in_ok-queued.ensures.found before config x holds lawful)
     (ap (λ (t : WrittenItem). t.queue) told) (ap (λ (t : WrittenItem). t.change) told)
     (ap (λ (t : WrittenItem). t.revision) told) (ap (λ (t : WrittenItem). t.verdict) told)
-    (ap (λ (t : WrittenItem). string_bytes t.jobs) told ∙ c.in_ok-jobs.ensures.found trusted config x held lawful)
+    (ap (λ (t : WrittenItem). string_bytes t.jobs) told ∙ c.in_ok-jobs.ensures.found trusted config x held lawful))
+    (search rules) (search rules)
 
-pub returns-in_ok-from_str-in-Some-2-clause-found : goal.returns-in_ok-from_str-in-Some-2-clause-found
-returns-in_ok-from_str-in-Some-2-clause-found g c trusted x holds lawful =
+pub returns-in_ok-from_str-in-Some-2 : goal.returns-in_ok-from_str-in-Some-2
+returns-in_ok-from_str-in-Some-2 g c = is_read_under (λ trusted x holds lawful.
     let config = c.args.config.now in
     let before = c.in_ok-left.ensures.kept.trusted_before trusted in
     let held = c.in_ok-queued.ensures.kept.holds_on before config x holds in
@@ -28,4 +30,5 @@ returns-in_ok-from_str-in-Some-2-clause-found g c trusted x holds lawful =
     (sym c.in-Some-2.is ∙ c.in_ok-left.ensures.found trusted config x held lawful)
     (ap (λ (t : WrittenItem). t.queue) told) (ap (λ (t : WrittenItem). t.change) told)
     (ap (λ (t : WrittenItem). t.revision) told) (ap (λ (t : WrittenItem). t.verdict) told)
-    (ap (λ (t : WrittenItem). string_bytes t.jobs) told ∙ c.in_ok-from_str-in-Some-2.ensures.ok)
+    (ap (λ (t : WrittenItem). string_bytes t.jobs) told ∙ c.in_ok-from_str-in-Some-2.ensures.ok))
+    (search rules) (search rules)

@@ -5,6 +5,7 @@ use Rattle.gate_reads.proofs.Queues.{queue_there}
 use Rattle.gate_texts.proofs.Pieces.{no_queue_left}
 use Rattle.gate_texts.proofs.Listed.{listed_front, listed_next, listed_end}
 use Rattle.gate_book_trait.proofs.KeptLemmas.{then}
+use Rattle.gate_book_trait.proofs.ReadingLemmas.{is_read_under}
 use Rattle.gate_texts.proofs.orders.order_list.Goals as goal
 
 pub loop-queue-init : goal.loop-queue-init
@@ -30,11 +31,12 @@ loop-queue-preserved g c = record {
       c.in_ok-push_order.ensures;
 }
 
-pub returns-clause-found : goal.returns-clause-found
-returns-clause-found g c trusted x holds lawful =
+pub returns : goal.returns
+returns g c = is_read_under (λ trusted x holds lawful.
     listed_end c.args.config.now x.state c.loop-queue.queue-index (string_bytes c.loop-queue.list) c.new.result
     (c.loop-queue.invariant.listed trusted x holds lawful)
     (no_queue_left c.args.config.now x.state c.loop-queue.queue-index c.as_slice-queue-items.result.now
     lawful.lawful.sound (c.as_slice-queue-items.ensures ∙ ap (λ (k : Settings). k.queues) c.config.view_is)
     c.loop-queue-test.false)
-    (c.new.ensures ∙ c.in_ok-text.ensures.ok)
+    (c.new.ensures ∙ c.in_ok-text.ensures.ok))
+    (search rules) (search rules)

@@ -1,6 +1,7 @@
 use Rattle.std.proofs.Common.{◌∙◌, sym, ap, rules}
 use Rattle.gate_book_trait.specs.Reads.{first_above}
 use Rattle.gate_book_trait.proofs.KeptLemmas.{then}
+use Rattle.gate_book_trait.proofs.ReadingLemmas.{is_read}
 use Rattle.gate_reads.proofs.Walking.{lawful_front, rows_are}
 use Rattle.gate_texts.proofs.RunningBuilds.{along_front, along_next, along_end}
 use Rattle.gate_texts.proofs.running.push_queue.Goals as goal
@@ -31,12 +32,13 @@ along-preserved g c = record {
       (λ done is_of. c.in_ok-push_builds.ensures done is_of);
 }
 
-pub returns-clause-found : goal.returns-clause-found
-returns-clause-found g c trusted config x holds lawful q named before told =
+pub returns : goal.returns
+returns g c = is_read (λ trusted config x holds lawful q named before told.
     let s = x.state in
     let start = c.in_ok-item.ensures.kept.trusted_before trusted in
     let held = c.along.invariant.kept.holds_on start config x holds in
     along_end config s q c.along.above before c.along.running
     (c.along.invariant.told start config x holds lawful q named before told)
     (ap (first_above c.along.above) (sym (rows_are config s c.args.queue.now q named))
-    ∙ sym (c.in_ok-item.ensures.found trusted config x held lawful) ∙ c.in_default.is)
+    ∙ sym (c.in_ok-item.ensures.found trusted config x held lawful) ∙ c.in_default.is))
+    (search rules) (search rules)

@@ -1,9 +1,10 @@
-use Rattle.std.proofs.Common.{◌≡◌, ◌∙◌, ap, subst, true}
+use Rattle.std.proofs.Common.{◌≡◌, ◌∙◌, ap, subst, true, rules}
 use Rattle.gate_types.specs.Settings.{Settings, are_sound}
 use Rattle.gate_reads.proofs.Queues.{queue_there}
 use Rattle.gate_texts.proofs.Pieces.{no_queue_left}
 use Rattle.gate_texts.proofs.RunningBuilds.{before_next, before_end}
 use Rattle.gate_book_trait.proofs.KeptLemmas.{then}
+use Rattle.gate_book_trait.proofs.ReadingLemmas.{is_read_under}
 use Rattle.gate_texts.proofs.running.running_of.Goals as goal
 
 pub loop-queue-preserved : goal.loop-queue-preserved
@@ -22,10 +23,11 @@ loop-queue-preserved g c = record {
       (c.in_ok-push_queue.ensures.found trusted _ x held lawful there.queue there.named);
 }
 
-pub returns-clause-found : goal.returns-clause-found
-returns-clause-found g c trusted x holds lawful =
+pub returns : goal.returns
+returns g c = is_read_under (λ trusted x holds lawful.
     before_end x.state c.loop-queue.queue-index c.loop-queue.running
     (c.loop-queue.invariant.told trusted x holds lawful)
     (no_queue_left c.args.config.now x.state c.loop-queue.queue-index c.as_slice-queue-items.result.now
     lawful.lawful.sound (c.as_slice-queue-items.ensures ∙ ap (λ (k : Settings). k.queues) c.config.view_is)
-    c.loop-queue-test.false)
+    c.loop-queue-test.false))
+    (search rules) (search rules)

@@ -1,9 +1,10 @@
-use Rattle.std.proofs.Common.{◌∙◌, ap, not}
+use Rattle.std.proofs.Common.{◌∙◌, ap, not, rules}
+use Rattle.gate_book_trait.proofs.ReadingLemmas.{is_read_under}
 use Rattle.gate_texts.proofs.Shown.{item_told}
 use Rattle.gate_texts.proofs.status_text.item_text.Goals as goal
 
-pub returns-clause-found : goal.returns-clause-found
-returns-clause-found g c trusted x holds lawful name q p at =
+pub returns : goal.returns
+returns g c = is_read_under (λ trusted x holds lawful name q p at.
     let third = c.in_ok-builds.ensures.kept.trusted_before trusted in
     let second = c.in_ok-plan.ensures.kept.trusted_before third in
     let first = c.in_ok-needs.ensures.kept.trusted_before second in
@@ -17,4 +18,5 @@ returns-clause-found g c trusted x holds lawful name q p at =
     (c.deref.ensures.value ∙ c.in_ok-needs.ensures.found second _ x held lawful)
     (c.as_slice.ensures ∙ c.in_ok-builds.ensures.found trusted _ x planned lawful)
     (c.in_ok-plan.ensures.found third _ x needed lawful) c.as_slice-jobs.ensures
-    (ap not c.are_met_among-blocked.ensures) c.is_cut-cut.ensures
+    (ap not c.are_met_among-blocked.ensures) c.is_cut-cut.ensures)
+    (search rules) (search rules)

@@ -2,6 +2,7 @@ use Rattle.std.proofs.Common.{◌++◌, ◌∙◌, sym, ap, subst, rules}
 use Rattle.std.specs.Prelude.{string_bytes}
 use Rattle.gate_book_trait.specs.Reads.{first_above}
 use Rattle.gate_book_trait.proofs.KeptLemmas.{then}
+use Rattle.gate_book_trait.proofs.ReadingLemmas.{is_read_under}
 use Rattle.gate_reads.specs.Places.{IsBehind}
 use Rattle.gate_reads.proofs.Walking.{lawful_front, rows_are}
 use Rattle.gate_reads.proofs.Trying.{place_next}
@@ -39,8 +40,8 @@ along-preserved g c = record {
       (c.in_ok-push_str.ensures.bytes ∙ ap (λ l. string_bytes c.along.text ++ l) c.as_str.ensures.value);
 }
 
-pub returns-clause-found : goal.returns-clause-found
-returns-clause-found g c trusted x holds lawful q named =
+pub returns : goal.returns
+returns g c = is_read_under (λ trusted x holds lawful q named.
     let s = x.state in
     let config = c.args.config.now in
     let start = c.in_ok-item.ensures.kept.trusted_before trusted in
@@ -48,4 +49,5 @@ returns-clause-found g c trusted x holds lawful q named =
     shown_end config s q c.along.above c.along.ahead (string_bytes c.along.text)
     (c.along.invariant.shown start x holds lawful q named)
     (ap (first_above c.along.above) (sym (rows_are config s c.args.queue.now q named))
-    ∙ sym (c.in_ok-item.ensures.found trusted _ x held lawful) ∙ c.in_default.is)
+    ∙ sym (c.in_ok-item.ensures.found trusted _ x held lawful) ∙ c.in_default.is))
+    (search rules) (search rules)
