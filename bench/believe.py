@@ -14,6 +14,7 @@ from __future__ import annotations
 
 import re
 import sys
+from collections import defaultdict
 from collections.abc import Iterable, Iterator
 from itertools import groupby
 from pathlib import Path
@@ -60,6 +61,17 @@ class Believed:
     def of(self, promise: Promise) -> dict[str, Piece]:
         return self.closure([*map(self.pieces.contract, promise.contracts),
                              *(self.pieces.pieces[key] for key in promise.members)], promise.tokens)
+
+    def homonyms(self, promises: Iterable[Promise]) -> dict[str, list[Piece]]:
+        """Words that stand for more than one definition of specs in the lists of these promises together."""
+        found = dict[str, Piece]()
+        for promise in promises:
+            found |= self.of(promise)
+        by_word = defaultdict[str, list[Piece]](list)
+        for it in found.values():
+            if it.kind == "definition":
+                by_word[it.name].append(it)
+        return {word: sorted(pieces, key=self.place) for word, pieces in sorted(by_word.items()) if len(pieces) > 1}
 
     def place(self, piece: Piece) -> tuple[bool, int, int, str, int]:
         """Where a piece stands if nothing forbids it: by crate, its code, then its specs as their `Lib` lists them."""

@@ -9,8 +9,8 @@ from dataclasses import replace
 
 from bench import believe
 from bench.believe import Believed
-from bench.promised import EXAMPLES, LANDS, NONE, PINNED, PROMISES
-from bench.written import written
+from bench.promised import EXAMPLES, LANDS, NONE, PINNED, PROMISES, Promise
+from bench.written import put, written
 
 FILES = {
     "crates.txt": "# the lowest last\nhigh: low\nlow:\n",
@@ -147,6 +147,18 @@ class Small(unittest.TestCase):
         self.assertEqual(out.getvalue(), "5 lines\n\n| file | lines | definitions, in order |\n|---|---|---|\n"
                          "| low/specs/Words.antt | 2 | `is_number` |\n| high/src/gate.rt | 3 | `deliver` |\n")
 
+    def test_words_of_specs_with_two_meanings(self) -> None:
+        plain, red = (Promise(it, it, (f"{DELIVER} {it}",)) for it in ("plain", "red"))
+        path = "crates/low/specs/After.antt"
+        for name, found in (("deliver", []), ("Build", []), ("is_number", ["crates/low/specs/Words.antt", path])):
+            put(self.top / path, FILES[path].replace("    is_red", f"    {name}")
+                + f"\nabbrev pub {name} : Content → Bool\n{name} x = is_red x\n")
+            believed = Believed(self.top)
+            with self.subTest(name):
+                self.assertIn(name, [it.name for it in believed.of(red).values() if it.kind == "definition"])
+                self.assertEqual([str(it.file) for it in believed.homonyms([plain, red]).get(name, [])], found)
+                self.assertEqual(believed.homonyms([plain]), {})
+
     def test_the_shorter_way_to_say_what_is_left_out(self) -> None:
         whole = self.believed.closure([self.believed.pieces.contract(f"{DELIVER} red")])
         part = {key: it for key, it in whole.items() if it.name != "Serial"}
@@ -190,6 +202,11 @@ class Page(unittest.TestCase):
                 with self.subTest(promise.title, token=token):
                     self.assertIn(token, whole)
                     self.assertNotIn(token, own)
+
+    def test_each_word_has_one_meaning(self) -> None:
+        """Of the definitions that a reader has to believe: he meets all of them."""
+        found = Believed(believe.TOP).homonyms(PROMISES)
+        self.assertEqual({word: [f"{it.file}:{it.line}" for it in pieces] for word, pieces in found.items()}, {})
 
     def test_each_quotation_stands_in_its_file(self) -> None:
         front = believe.parts_of(self.page)[0]

@@ -8,8 +8,8 @@ use gate_types::sequence::Sequence;
 use gate_types::tap::Tap;
 use std::io::Write;
 
-/// A book that also answers what is past. No rule of the gate needs that: the queries to a running gate do. Each read is
-/// by key, and touches only the rows that it returns.
+/// A book that also answers what is past. No rule of the gate needs that: the queries to a running gate do. Each read
+/// is by key, and touches only the rows that it returns.
 pub trait Archive: Book {
     ghost use Rattle.std.specs.Prelude.{◌≡◌, false, length, IfErr};
     ghost use Rattle.gate_types.specs.Tap.{has_failed};
@@ -61,9 +61,9 @@ pub trait Archive: Book {
         ensures kept { IsKept Self.IsTrusted Self.Holds Self.LeavesOneOf self.old self.new };
 
     /// Writes the front and then a line for each accepted delivery, from the first on or behind that of an id, no more
-    /// than `most`, each while it is read; and tells how many lines these are. The first of them, or that there is none,
-    /// is read before the first byte is written: so `NoDelivery` and `Unavailable` mean that nothing was. `Broken` and
-    /// `Write` leave some first bytes.
+    /// than `most`, each while it is read; and tells how many lines these are. The first of them, or that there is
+    /// none, is read before the first byte is written: so `NoDelivery` and `Unavailable` mean that nothing was.
+    /// `Broken` and `Write` leave some first bytes.
     fn deliveries<W: Write>(
         &mut self,
         after: Option<Id>,

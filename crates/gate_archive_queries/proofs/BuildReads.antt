@@ -24,7 +24,7 @@ use Rattle.sqlite_tied.specs.Compute.{everything}
 use Rattle.gate_types.specs.Forms.{is_drawn_number}
 use Rattle.gate_types.specs.Names.{is_name}
 use Rattle.gate_types.specs.declared.records.Build.{Build}
-use Rattle.gate_schema.specs.Rows.{Stored, build_key, build_row}
+use Rattle.gate_schema.specs.Rows.{Stored, build_key, build_table_row}
 use Rattle.gate_schema.proofs.QueryLemmas.{over_table, passes}
 use Rattle.gate_schema.proofs.Statements.{Asks, key_is}
 use Rattle.gate_schema.proofs.ValueLemmas.{equal_numbers}
@@ -119,9 +119,9 @@ pub count_found : (s : State) (b : Stored) (serial : ℕ) (rows : List Row) → 
     → rows ≡ number_shown (length (builds_of b serial)) ∷ []
 count_found s b serial rows shows whole finds =
     let params = Int (pos serial) ∷ [] in
-    let found : filter (passes (key_is 3 ∷ []) (Int (pos serial) ∷ [])) (overlay s.now.trees [] 13) ≡ map build_row (filter (λ (x : Build). eqb x.serial serial) b.builds) =
-    ap (filter (passes (key_is 3 ∷ []) (Int (pos serial) ∷ []))) shows.stands.build.rows_are ∙ filter-map _ build_row b.builds
-    ∙ ap (map build_row) (filter_same _ _ (λ x. rw equal_numbers (and_true (eqb x.serial serial))) b.builds) in
+    let found : filter (passes (key_is 3 ∷ []) (Int (pos serial) ∷ [])) (overlay s.now.trees [] 13) ≡ map build_table_row (filter (λ (x : Build). eqb x.serial serial) b.builds) =
+    ap (filter (passes (key_is 3 ∷ []) (Int (pos serial) ∷ []))) shows.stands.build.rows_are ∙ filter-map _ build_table_row b.builds
+    ∙ ap (map build_table_row) (filter_same _ _ (λ x. rw equal_numbers (and_true (eqb x.serial serial))) b.builds) in
     let many : length (filter (passes (key_is 3 ∷ []) (Int (pos serial) ∷ [])) (overlay s.now.trees [] 13)) ≡ length (builds_of b serial) =
     ap length found ∙ simp length-map in
     counts 13 (key_is 3 ∷ []) (overlay s.now.trees []) params rows (answers s count_sql count_query (codes "count(*)" ∷ []) params rows count_asks shows.schema_is finds)
@@ -135,7 +135,7 @@ pub last_found : (s : State) (b : Stored) (serial most : ℕ) (rows : List Row) 
     → rows ≡ map summary_shown (take most (reverse (builds_of b serial)))
 last_found s b serial most rows shows finds =
     let params = Int (pos serial) ∷ Int (pos most) ∷ [] in
-    finds_falling build_key build_row summary_shown 13 (key_is 3 ∷ []) last_terms (col 0 1) params (λ (x : Build). eqb x.serial serial)
+    finds_falling build_key build_table_row summary_shown 13 (key_is 3 ∷ []) last_terms (col 0 1) params (λ (x : Build). eqb x.serial serial)
     (λ x. rw equal_numbers (and_true (eqb x.serial serial))) (λ x. refl) (λ x. refl) (overlay s.now.trees []) b.builds rows shows.stands.build
     (answers s last_sql last_query last_names params rows last_asks shows.schema_is finds)
     ∙ take-map summary_shown most (reverse (builds_of b serial))

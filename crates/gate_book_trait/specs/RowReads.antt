@@ -15,12 +15,12 @@ use Rattle.gate_types.specs.Rising.{RisesFrom}
 use Rattle.gate_book_trait.specs.declared.rows.QueuedItem.{QueuedItem}
 
 -- the row of a change
-abbrev pub row_of : List ChangeRow → ℕ → Option ChangeRow
-row_of rows n = find (λ r. r.change.number == n) rows
+abbrev pub change_row_in : List ChangeRow → ℕ → Option ChangeRow
+change_row_in rows n = find (λ r. r.change.number == n) rows
 
 -- what is known of a change
 abbrev pub change_in : List ChangeRow → ℕ → Option Change
-change_in rows n = option_map (λ r. r.change) (row_of rows n)
+change_in rows n = option_map (λ r. r.change) (change_row_in rows n)
 
 -- the changes that it needs
 abbrev pub needs_in : List ChangeRow → ℕ → List ℕ

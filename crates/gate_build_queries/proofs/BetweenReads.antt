@@ -25,7 +25,7 @@ use Rattle.gate_book_trait.specs.Reads.{items_between}
 use Rattle.gate_rows.specs.Matches.{items_of}
 use Rattle.gate_types.specs.Names.{same_name}
 use Rattle.gate_types.specs.declared.records.Item.{Item}
-use Rattle.gate_schema.specs.Rows.{IsKeyed, ItemRow, Stored, item_key, item_row}
+use Rattle.gate_schema.specs.Rows.{IsKeyed, ItemRow, Stored, item_key, item_table_row}
 use Rattle.gate_schema.proofs.Statements.{key_is}
 use Rattle.gate_schema.proofs.ValueLemmas.{above_number, equal_texts, value_cmp-pos}
 use Rattle.gate_schema.proofs.DeleteLemmas.{filter_same_on}
@@ -89,9 +89,9 @@ items_are_between f b name above last =
 
 module _ {Y : Type 0} (S : Row → Y → Type 0) (second : ℕ) (with project : List Term) (order : Term) (name : List ℕ) (above last : ℕ)
     (is_of : Y → ℕ → Bool) (number : Y → ℕ) (shown : Item → Y → Row)
-    (same : (s : Row) (i : ItemRow) (y : Y) → S s y → list_all (holds (between_params name (capped above) last ∷ item_row i ∷ s ∷ [])) with ≡ is_of y i.item.serial)
-    (value : (s : Row) (i : ItemRow) (y : Y) → S s y → eval order (between_params name (capped above) last ∷ item_row i ∷ s ∷ []) ≡ Int (pos (number y)))
-    (shows : (s : Row) (i : ItemRow) (y : Y) → S s y → eval_all project (between_params name (capped above) last ∷ item_row i ∷ s ∷ []) ≡ shown i.item y) where
+    (same : (s : Row) (i : ItemRow) (y : Y) → S s y → list_all (holds (between_params name (capped above) last ∷ item_table_row i ∷ s ∷ [])) with ≡ is_of y i.item.serial)
+    (value : (s : Row) (i : ItemRow) (y : Y) → S s y → eval order (between_params name (capped above) last ∷ item_table_row i ∷ s ∷ []) ≡ Int (pos (number y)))
+    (shows : (s : Row) (i : ItemRow) (y : Y) → S s y → eval_all project (between_params name (capped above) last ∷ item_table_row i ∷ s ∷ []) ≡ shown i.item y) where
   -- the query
   abbrev q : Query
   q = between_query second with project order
@@ -105,7 +105,7 @@ module _ {Y : Type 0} (S : Row → Y → Type 0) (second : ℕ) (with project : 
   outs ys is = flat_map (λ i. map (out i) (filter (λ y. is_of y i.item.serial) ys)) is
 
   -- both pass where the item is between the serials, and the other goes with it
-  passes_both : (r s : Row) (i : ItemRow) (y : Y) → r ≡ item_row i → S s y
+  passes_both : (r s : Row) (i : ItemRow) (y : Y) → r ≡ item_table_row i → S s y
       → list_all (holds (between_params name (capped above) last ∷ r ∷ s ∷ [])) (between_test with) ≡ (is_between name (capped above) last i && is_of y i.item.serial)
   passes_both r s i y is tells =
       subst (λ v. list_all (holds (between_params name (capped above) last ∷ v ∷ s ∷ [])) (between_test with) ≡ (is_between name (capped above) last i && is_of y i.item.serial)) (sym is)
@@ -116,7 +116,7 @@ module _ {Y : Type 0} (S : Row → Y → Type 0) (second : ℕ) (with project : 
       grouped a b c d = sym (and_assoc a (b && c) d ∙ ap (λ t. a && t) (and_assoc b c d))
 
   -- so they are shown
-  shows_both : (r s : Row) (i : ItemRow) (y : Y) → r ≡ item_row i → S s y → output q (between_params name (capped above) last ∷ r ∷ s ∷ []) ≡ out i y
+  shows_both : (r s : Row) (i : ItemRow) (y : Y) → r ≡ item_table_row i → S s y → output q (between_params name (capped above) last ∷ r ∷ s ∷ []) ≡ out i y
   shows_both r s i y is tells =
       subst (λ v. output q (between_params name (capped above) last ∷ v ∷ s ∷ []) ≡ out i y) (sym is) (rw (value s i y tells, shows s i y tells))
 
@@ -145,7 +145,7 @@ module _ {Y : Type 0} (S : Row → Y → Type 0) (second : ℕ) (with project : 
       (λ i. map-map (λ (o : Output). o.1) (out i) (filter (λ y. is_of y i.item.serial) ys)) is
 
   -- what goes with each item between the serials, item by item
-  pub finds_between : (db : Trees) (b : Stored) (ys : List Y) (rows : List Row) → IsWhole b → IsKeyed item_key item_row (db 11) b.items → AllZip S (db second) ys
+  pub finds_between : (db : Trees) (b : Stored) (ys : List Y) (rows : List Row) → IsWhole b → IsKeyed item_key item_table_row (db 11) b.items → AllZip S (db second) ys
       → ((n : ℕ) → IsAscending (λ x y. number x < number y) (filter (λ y. is_of y n) ys)) → IsAnswer q db (between_params name (capped above) last) rows
       → rows ≡ flat_map (λ i. map (shown i) (filter (λ y. is_of y i.serial) ys)) (items_between above last (items_of name b.items))
   finds_between db b ys rows whole holds tells rise a =
@@ -153,8 +153,8 @@ module _ {Y : Type 0} (S : Row → Y → Type 0) (second : ℕ) (with project : 
       let up = outs_rise ys (filter (is_between name (capped above) last) b.items) (ascending-filter _ (is_between name (capped above) last) b.items holds.in_order) rise in
       let alike : filter (is_between name (capped above) last) b.items ≡ filter (is_between name above last) b.items =
       filter_same_on _ _ b.items (all_so InForm _ (λ i form. ap (λ t. same_name i.queue name && (t && leb i.item.serial last)) (above_capped above i.item.serial (low i form))) b.items whole.items) in
-      shows_pairs (λ r i. r ≡ item_row i) S 11 second (between_test with) project (by_item order) (between_params name (capped above) last)
-      (λ i y. is_between name (capped above) last i && is_of y i.item.serial) out passes_both shows_both db rows b.items ys (keyed_told item_key item_row (db 11) b.items holds) tells
+      shows_pairs (λ r i. r ≡ item_table_row i) S 11 second (between_test with) project (by_item order) (between_params name (capped above) last)
+      (λ i y. is_between name (capped above) last i && is_of y i.item.serial) out passes_both shows_both db rows b.items ys (keyed_told item_key item_table_row (db 11) b.items holds) tells
       (subst (λ os. IsAscending (λ a b. output_cmp q a b ≡ Less) os) (sym paired) up) a
       ∙ ap (map (λ (o : Output). o.1)) (paired ∙ ap (outs ys) alike)
       ∙ all_shown ys (filter (is_between name above last) b.items)

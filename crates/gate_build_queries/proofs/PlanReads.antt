@@ -16,11 +16,11 @@ use Rattle.sqlite_trees.specs.Tree.{IsAscending}
 use Rattle.gate_types.specs.Names.{is_name}
 use Rattle.gate_types.specs.declared.config.Job.{Job}
 use Rattle.gate_schema.specs.Edits.{job_rows}
-use Rattle.gate_schema.specs.Rows.{JobRow, Stored, fast_key, fast_row, job_columns}
+use Rattle.gate_schema.specs.Rows.{JobRow, Stored, fast_key, fast_table_row, job_columns}
 use Rattle.gate_schema.proofs.QueryLemmas.{passes}
 use Rattle.gate_schema.proofs.Statements.{key_is, no_limit}
 use Rattle.gate_schema.proofs.ValueLemmas.{equal_numbers}
-use Rattle.gate_found_rows.specs.Asked.{jobs_of}
+use Rattle.gate_found_rows.specs.Asked.{stored_jobs_of}
 use Rattle.gate_found_rows.specs.Finds.{Finds}
 use Rattle.gate_found_rows.specs.Reads.{IsShown}
 use Rattle.gate_found_rows.specs.Shown.{job_shown, number_shown}
@@ -46,7 +46,7 @@ places_rise n from (j ∷ js) = (places_above n (suc from) from js (omega arith)
 
 -- the jobs under a serial
 pub jobs_found : (s : State) (b : Stored) (n : ℕ) (rows : List Row) → IsShown s b → IsWhole b → Finds jobs_sql (Int (pos n) ∷ []) s.now rows
-    → rows ≡ map job_shown (jobs_of b n)
+    → rows ≡ map job_shown (stored_jobs_of b n)
 jobs_found s b n rows shows whole finds =
     let params = Int (pos n) ∷ [] in
     listed_rising job_columns 26 (key_is 1 ∷ []) (col 1 2) params (λ (x : JobRow). eqb x.serial n)
@@ -54,7 +54,7 @@ jobs_found s b n rows shows whole finds =
     (λ x. x.place) (λ v x is. told_behind (λ v. eval (col 1 2) ((Int (pos n) ∷ []) ∷ v ∷ [])) v _ _ (Int (pos x.place)) (λ w. refl) is)
     (overlay s.now.trees []) b.jobs rows shows.stands.job jobs_terms no_limit (λ x. job_shown x.job)
     (λ v x is. told_behind (λ v. eval_all jobs_terms ((Int (pos n) ∷ []) ∷ v ∷ [])) v _ _ (job_shown x.job) (λ w. refl) is)
-    (subst (λ xs. IsAscending (λ (x y : JobRow). x.place < y.place) xs) (sym (whole.jobs_are_placed n)) (places_rise n 0 (jobs_of b n)))
+    (subst (λ xs. IsAscending (λ (x y : JobRow). x.place < y.place) xs) (sym (whole.jobs_are_placed n)) (places_rise n 0 (stored_jobs_of b n)))
     (answers s jobs_sql jobs_query jobs_names params rows jobs_asks shows.schema_is finds)
     ∙ sym (map-map job_shown (λ (x : JobRow). x.job) _)
 
@@ -65,10 +65,10 @@ mapped [] all = tt
 mapped (x ∷ xs) all = (all.0, mapped xs all.1)
 
 -- the jobs under a serial are in form
-pub jobs_in_form : (n : ℕ) (b : Stored) → IsWhole b → AllPass (λ (j : Job). is_name j.name) (jobs_of b n)
+pub jobs_in_form : (n : ℕ) (b : Stored) → IsWhole b → AllPass (λ (j : Job). is_name j.name) (stored_jobs_of b n)
 jobs_in_form n b whole =
     let some = pass_filter is_job_row_in_form (λ (x : JobRow). eqb x.serial n) b.jobs whole.jobs in
-    All-from_recursion (λ (j : Job). is_name j.name ≡ true) (jobs_of b n)
+    All-from_recursion (λ (j : Job). is_name j.name ≡ true) (stored_jobs_of b n)
     (mapped (filter (λ (x : JobRow). eqb x.serial n) b.jobs) (recursion_from_All (λ (x : JobRow). is_name x.job.name ≡ true) _ some))
 
 -- ---- whether it fails fast
@@ -79,7 +79,7 @@ pub fast_found : (s : State) (b : Stored) (n : ℕ) (rows : List Row) → IsShow
 fast_found s b n rows shows finds =
     let params = Int (pos n) ∷ [] in
     let is = shows.stands.fast in
-    finds_few fast_key fast_row number_shown 28 (key_is 0 ∷ []) (col 1 0 ∷ []) no_limit params (λ m. eqb m n)
+    finds_few fast_key fast_table_row number_shown 28 (key_is 0 ∷ []) (col 1 0 ∷ []) no_limit params (λ m. eqb m n)
     (λ m. rw equal_numbers (and_true (eqb m n))) (λ m. refl) (overlay s.now.trees []) b.fast rows is (one_at fast_key n b.fast is.in_order)
     (answers s fast_sql fast_query (codes "serial" ∷ []) params rows fast_asks shows.schema_is finds)
 

@@ -21,9 +21,10 @@ use Rattle.gate_types.specs.Names.{is_name, same_name}
 use Rattle.gate_types.specs.declared.records.Item.{Item}
 use Rattle.gate_book_trait.specs.Reads.{items_between}
 use Rattle.gate_rows.specs.Matches.{items_of}
-use Rattle.gate_schema.specs.Rows.{ItemRow, JobRow, Stored, fast_key, fast_row, item_key, item_row, job_columns}
+use Rattle.gate_schema.specs.Rows.{ItemRow, JobRow, Stored, fast_key, fast_table_row, item_key, item_table_row}
+use Rattle.gate_schema.specs.Rows.{job_columns}
 use Rattle.gate_schema.proofs.ValueLemmas.{equal_numbers}
-use Rattle.gate_found_rows.specs.Asked.{jobs_of, plan_with, plans_between}
+use Rattle.gate_found_rows.specs.Asked.{stored_jobs_of, plan_with, plans_between}
 use Rattle.gate_found_rows.specs.Finds.{Finds}
 use Rattle.gate_build_queries.specs.Planned.{jobs_between, marked_between, plans_of}
 use Rattle.gate_found_rows.specs.Reads.{IsShown}
@@ -48,11 +49,11 @@ pub planned_found : (s : State) (b : Stored) (name : List ℕ) (above last : ℕ
 planned_found s b name above last rows shows whole finds =
     let params = between_params name (capped above) last in
     finds_between (λ r x. drop 1 r ≡ job_columns x) 26 planned_of planned_terms (col 2 2) name above last (λ (x : JobRow) n. eqb x.serial n) (λ (x : JobRow). x.place) (λ i x. planned_shown x)
-    (λ r i x is. told_behind (λ v. list_all (holds (params ∷ item_row i ∷ v ∷ [])) planned_of) r _ _ (eqb x.serial i.item.serial) (λ w. rw (equal_numbers x.serial i.item.serial, and_true (eqb x.serial i.item.serial))) is)
-    (λ r i x is. told_behind (λ v. eval (col 2 2) (params ∷ item_row i ∷ v ∷ [])) r _ _ (Int (pos x.place)) (λ w. refl) is)
-    (λ r i x is. told_behind (λ v. eval_all planned_terms (params ∷ item_row i ∷ v ∷ [])) r _ _ (planned_shown x) (λ w. refl) is)
+    (λ r i x is. told_behind (λ v. list_all (holds (params ∷ item_table_row i ∷ v ∷ [])) planned_of) r _ _ (eqb x.serial i.item.serial) (λ w. rw (equal_numbers x.serial i.item.serial, and_true (eqb x.serial i.item.serial))) is)
+    (λ r i x is. told_behind (λ v. eval (col 2 2) (params ∷ item_table_row i ∷ v ∷ [])) r _ _ (Int (pos x.place)) (λ w. refl) is)
+    (λ r i x is. told_behind (λ v. eval_all planned_terms (params ∷ item_table_row i ∷ v ∷ [])) r _ _ (planned_shown x) (λ w. refl) is)
     (overlay s.now.trees []) b b.jobs rows whole shows.stands.item (listed_told job_columns (s.now.trees 26) b.jobs shows.stands.job.columns_are)
-    (λ n. subst (λ xs. IsAscending (λ (x y : JobRow). x.place < y.place) xs) (sym (whole.jobs_are_placed n)) (places_rise n 0 (jobs_of b n)))
+    (λ n. subst (λ xs. IsAscending (λ (x y : JobRow). x.place < y.place) xs) (sym (whole.jobs_are_placed n)) (places_rise n 0 (stored_jobs_of b n)))
     (answers s planned_sql (between_query 26 planned_of planned_terms (col 2 2)) planned_names params rows planned_asks shows.schema_is finds)
     ∙ sym (map-flat_map planned_shown (λ (i : Item). filter (λ (x : JobRow). eqb x.serial i.serial) b.jobs) (items_between above last (items_of name b.items)))
 
@@ -61,11 +62,11 @@ pub marked_found : (s : State) (b : Stored) (name : List ℕ) (above last : ℕ)
     → Finds marked_sql (between_params name (capped above) last) s.now rows → rows ≡ map number_shown (marked_between b name above last)
 marked_found s b name above last rows shows whole finds =
     let params = between_params name (capped above) last in
-    finds_between (λ r m. r ≡ fast_row m) 28 marked_of (col 2 0 ∷ []) (col 2 0) name above last (λ m n. eqb m n) fast_key (λ i m. number_shown m)
-    (λ r i m is. subst (λ v. list_all (holds (params ∷ item_row i ∷ v ∷ [])) marked_of ≡ eqb m i.item.serial) (sym is) (rw (equal_numbers m i.item.serial, and_true (eqb m i.item.serial))))
-    (λ r i m is. subst (λ v. eval (col 2 0) (params ∷ item_row i ∷ v ∷ []) ≡ Int (pos m)) (sym is) refl)
-    (λ r i m is. subst (λ v. eval_all (col 2 0 ∷ []) (params ∷ item_row i ∷ v ∷ []) ≡ number_shown m) (sym is) refl)
-    (overlay s.now.trees []) b b.fast rows whole shows.stands.item (keyed_told fast_key fast_row (s.now.trees 28) b.fast shows.stands.fast)
+    finds_between (λ r m. r ≡ fast_table_row m) 28 marked_of (col 2 0 ∷ []) (col 2 0) name above last (λ m n. eqb m n) fast_key (λ i m. number_shown m)
+    (λ r i m is. subst (λ v. list_all (holds (params ∷ item_table_row i ∷ v ∷ [])) marked_of ≡ eqb m i.item.serial) (sym is) (rw (equal_numbers m i.item.serial, and_true (eqb m i.item.serial))))
+    (λ r i m is. subst (λ v. eval (col 2 0) (params ∷ item_table_row i ∷ v ∷ []) ≡ Int (pos m)) (sym is) refl)
+    (λ r i m is. subst (λ v. eval_all (col 2 0 ∷ []) (params ∷ item_table_row i ∷ v ∷ []) ≡ number_shown m) (sym is) refl)
+    (overlay s.now.trees []) b b.fast rows whole shows.stands.item (keyed_told fast_key fast_table_row (s.now.trees 28) b.fast shows.stands.fast)
     (λ n. ascending_weaker _ (λ x y. x < y) (λ x y less. omega (arith, ints)) _ (ascending-filter _ (λ m. eqb m n) b.fast shows.stands.fast.in_order))
     (answers s marked_sql (between_query 28 marked_of (col 2 0 ∷ []) (col 2 0)) (codes "serial" ∷ []) params rows marked_asks shows.schema_is finds)
     ∙ sym (map-flat_map number_shown (λ (i : Item). filter (λ m. eqb m i.serial) b.fast) (items_between above last (items_of name b.items)))
@@ -113,7 +114,7 @@ module _ (b : Stored) (name : List ℕ) (above last : ℕ) where
   pub put_together : (s : State) → IsShown s b → plans_of (marked_between b name above last) (jobs_between b name above last) ≡ plans_between b name above last
   put_together s shows =
       plans_are (marked_between b name above last) b.jobs items (items_rise s shows)
-      ∙ flat_alike _ _ items (λ i h. ap (λ fast. Rattle.std.specs.Prelude.option_to_list (plan_with i.serial fast (jobs_of b i.serial))) (marked_alike b.fast items i h))
+      ∙ flat_alike _ _ items (λ i h. ap (λ fast. Rattle.std.specs.Prelude.option_to_list (plan_with i.serial fast (stored_jobs_of b i.serial))) (marked_alike b.fast items i h))
 
 -- any number is in form
 pub any_number : (ns : List ℕ) → AllPass (λ n. true) ns

@@ -5,7 +5,7 @@ ghost use Rattle.sqlite.specs.Held.{state};
 ghost use Rattle.gate_types.specs.declared.records.Build.{Build as BuildRow};
 ghost use Rattle.gate_book_trait.specs.Reads.{Answers};
 ghost use Rattle.gate_schema.specs.Shown.{build_shown};
-ghost use Rattle.gate_found_rows.specs.Asked.{build_of, builds_between, live_builds};
+ghost use Rattle.gate_found_rows.specs.Asked.{stored_build_of, builds_between, stored_live_builds};
 ghost use Rattle.gate_found_rows.specs.Reads.{IsOnlyRead, Opened, Tells};
 ghost use Rattle.gate_found_rows.specs.Whole.{is_build_row_in_form};
 
@@ -74,7 +74,7 @@ pub fn build<S: Alter>(
     conn: &mut Connection<S>,
     number: BuildNo,
 ) -> Result<Option<Build>, BookFault>
-    ensures found { Tells (state S.Store conn.old) (state S.Store conn.new) result (λ b. build_of b number) }
+    ensures found { Tells (state S.Store conn.old) (state S.Store conn.new) result (λ b. stored_build_of b number) }
     ensures opened { Opened (state S.Store conn.old) (state S.Store conn.new) result }
     ensures only_reads { IsOnlyRead (state S.Store conn.old) (state S.Store conn.new) }
 {
@@ -94,7 +94,7 @@ pub fn live_builds<S: Alter>(
     conn: &mut Connection<S>,
     serial: Serial,
 ) -> Result<Sequence<Build>, BookFault>
-    ensures found { Tells (state S.Store conn.old) (state S.Store conn.new) result (λ b. live_builds b serial) }
+    ensures found { Tells (state S.Store conn.old) (state S.Store conn.new) result (λ b. stored_live_builds b serial) }
     ensures opened { Opened (state S.Store conn.old) (state S.Store conn.new) result }
     ensures only_reads { IsOnlyRead (state S.Store conn.old) (state S.Store conn.new) }
 {

@@ -5,7 +5,7 @@ ghost use Rattle.sqlite.specs.Held.{state};
 ghost use Rattle.gate_types.specs.Names.{is_name};
 ghost use Rattle.gate_types.specs.declared.config.Job.{Job as JobOf};
 ghost use Rattle.gate_book_trait.specs.Reads.{Answers};
-ghost use Rattle.gate_found_rows.specs.Asked.{is_fast, jobs_of, plan_at, plan_with};
+ghost use Rattle.gate_found_rows.specs.Asked.{is_stored_fast, stored_jobs_of, stored_plan_at, plan_with};
 ghost use Rattle.gate_found_rows.specs.Reads.{IsOnlyRead, Opened, Tells};
 ghost use Rattle.gate_found_rows.specs.Shown.{job_shown};
 
@@ -44,7 +44,7 @@ fn all_jobs(alloc: Global, rows: &[Row]) -> Result<Sequence<Job>, BookFault>
 
 /// The jobs under a serial, in their order; none where there is no plan.
 fn jobs<S: Alter>(conn: &mut Connection<S>, number: Serial) -> Result<Sequence<Job>, BookFault>
-    ensures found { Tells (state S.Store conn.old) (state S.Store conn.new) result (λ b. jobs_of b number) }
+    ensures found { Tells (state S.Store conn.old) (state S.Store conn.new) result (λ b. stored_jobs_of b number) }
     ensures opened { Opened (state S.Store conn.old) (state S.Store conn.new) result }
     ensures only_reads { IsOnlyRead (state S.Store conn.old) (state S.Store conn.new) }
 {
@@ -58,7 +58,7 @@ fn jobs<S: Alter>(conn: &mut Connection<S>, number: Serial) -> Result<Sequence<J
 
 /// Whether the item of a serial fails fast.
 fn is_fast<S: Alter>(conn: &mut Connection<S>, number: Serial) -> Result<bool, BookFault>
-    ensures found { Tells (state S.Store conn.old) (state S.Store conn.new) result (λ b. is_fast b number) }
+    ensures found { Tells (state S.Store conn.old) (state S.Store conn.new) result (λ b. is_stored_fast b number) }
     ensures opened { Opened (state S.Store conn.old) (state S.Store conn.new) result }
     ensures only_reads { IsOnlyRead (state S.Store conn.old) (state S.Store conn.new) }
 {
@@ -84,7 +84,7 @@ fn plan_with(serial: Serial, fast: bool, jobs: Sequence<Job>) -> Option<Plan>
 ///
 /// `NoMemory` where memory is refused, `Store` where a query fails, `Damaged` where a row isn't in form.
 pub fn plan<S: Alter>(conn: &mut Connection<S>, number: Serial) -> Result<Option<Plan>, BookFault>
-    ensures found { Tells (state S.Store conn.old) (state S.Store conn.new) result (λ b. plan_at b number) }
+    ensures found { Tells (state S.Store conn.old) (state S.Store conn.new) result (λ b. stored_plan_at b number) }
     ensures opened { Opened (state S.Store conn.old) (state S.Store conn.new) result }
     ensures only_reads { IsOnlyRead (state S.Store conn.old) (state S.Store conn.new) }
 {

@@ -19,7 +19,7 @@ use Rattle.gate_types.specs.declared.records.Change.{Change}
 use Rattle.gate_types.specs.declared.rows.ChangeRow.{ChangeRow}
 use Rattle.gate_rows.specs.Matches.{needs_in}
 use Rattle.gate_schema.specs.Edits.{need_rows}
-use Rattle.gate_schema.specs.Rows.{NeedRow, Stored, change_key, change_row, need_columns}
+use Rattle.gate_schema.specs.Rows.{NeedRow, Stored, change_key, change_table_row, need_columns}
 use Rattle.gate_schema.proofs.QueryLemmas.{passes}
 use Rattle.gate_schema.proofs.Statements.{key_is, no_limit}
 use Rattle.gate_schema.proofs.ValueLemmas.{equal_numbers}
@@ -43,7 +43,7 @@ pub change_found : (s : State) (b : Stored) (n : ℕ) (rows : List Row) → IsSh
 change_found s b n rows shows finds =
     let params = Int (pos n) ∷ [] in
     let is = shows.stands.change in
-    finds_few change_key change_row (λ r. change_shown r.change) 7 (key_is 0 ∷ []) change_terms no_limit params (λ r. eqb (change_key r) n)
+    finds_few change_key change_table_row (λ r. change_shown r.change) 7 (key_is 0 ∷ []) change_terms no_limit params (λ r. eqb (change_key r) n)
     (λ r. rw equal_numbers (and_true (eqb (change_key r) n))) (λ r. refl) (overlay s.now.trees []) b.changes rows is (one_at change_key n b.changes is.in_order)
     (answers s change_sql change_query change_names params rows change_asks shows.schema_is finds)
     ∙ sym (map-map change_shown (λ (r : ChangeRow). r.change) _)
@@ -122,6 +122,6 @@ pub approval_found : (s : State) (b : Stored) (n : ℕ) (rows : List Row) → Is
 approval_found s b n rows shows finds =
     let params = Int (pos n) ∷ [] in
     let is = shows.stands.change in
-    finds_few change_key change_row approval_shown 7 (key_is 0 ∷ []) (col 1 5 ∷ []) no_limit params (λ r. eqb (change_key r) n)
+    finds_few change_key change_table_row approval_shown 7 (key_is 0 ∷ []) (col 1 5 ∷ []) no_limit params (λ r. eqb (change_key r) n)
     (λ r. rw equal_numbers (and_true (eqb (change_key r) n))) (λ r. refl) (overlay s.now.trees []) b.changes rows is (one_at change_key n b.changes is.in_order)
     (answers s approval_sql approval_query (codes "approval" ∷ []) params rows approval_asks shows.schema_is finds)

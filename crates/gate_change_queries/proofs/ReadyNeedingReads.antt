@@ -27,7 +27,7 @@ use Rattle.sqlite_value.specs.Keys.{ascending}
 use Rattle.gate_types.specs.Forms.{is_drawn_number, is_ready_in_form}
 use Rattle.gate_types.specs.declared.records.Ready.{Ready}
 use Rattle.gate_types.specs.declared.rows.ChangeRow.{ChangeRow}
-use Rattle.gate_schema.specs.Rows.{NeedRow, Stored, change_key, change_row, need_columns, number_or_null}
+use Rattle.gate_schema.specs.Rows.{NeedRow, Stored, change_key, change_table_row, need_columns, number_or_null}
 use Rattle.gate_schema.specs.Shown.{needs_it}
 use Rattle.gate_schema.proofs.Statements.{Asks}
 use Rattle.gate_schema.proofs.ValueLemmas.{above_number, equal_numbers}
@@ -96,15 +96,15 @@ needing_list b needed = filter (λ (r : Ready). needs_it b.needs needed r.change
 
 module _ (b : Stored) (whole : IsWhole b) (needed : ℕ) where
   -- a need's row and a change's pass where the change is ready and has the need
-  passes_both : (r v : Row) (n : NeedRow) (k : ChangeRow) → drop 1 r ≡ need_columns n → v ≡ change_row k
+  passes_both : (r v : Row) (n : NeedRow) (k : ChangeRow) → drop 1 r ≡ need_columns n → v ≡ change_table_row k
       → list_all (holds (params_of needed ∷ r ∷ v ∷ [])) needing_test ≡ is_need_of needed n k
   passes_both r v n k tells is =
       subst (λ w. list_all (holds (params_of needed ∷ r ∷ w ∷ [])) needing_test ≡ is_need_of needed n k) (sym is)
-      (told_behind (λ w. list_all (holds (params_of needed ∷ w ∷ change_row k ∷ [])) needing_test) r _ _ (is_need_of needed n k)
+      (told_behind (λ w. list_all (holds (params_of needed ∷ w ∷ change_table_row k ∷ [])) needing_test) r _ _ (is_need_of needed n k)
       (λ w. rw (equal_numbers n.needed needed, equal_numbers (change_key k) n.change, above_or_null k.approval, and_true (is_ready k))) tells)
 
   -- the change is shown
-  shows_change : (r v : Row) (n : NeedRow) (k : ChangeRow) → drop 1 r ≡ need_columns n → v ≡ change_row k
+  shows_change : (r v : Row) (n : NeedRow) (k : ChangeRow) → drop 1 r ≡ need_columns n → v ≡ change_table_row k
       → output (over_tables 9 7 needing_test needing_terms ((col 2 5, ascending Binary) ∷ [])) (params_of needed ∷ r ∷ v ∷ []) ≡ out (change_key k) k.approval
   shows_change r v n k tells is =
       subst (λ w. output (over_tables 9 7 needing_test needing_terms ((col 2 5, ascending Binary) ∷ [])) (params_of needed ∷ r ∷ w ∷ []) ≡ out (change_key k) k.approval) (sym is) refl
@@ -155,10 +155,10 @@ module _ (b : Stored) (whole : IsWhole b) (needed : ℕ) where
   -- so they are shown
   pub needing_found : (s : State) (rows : List Row) → IsShown s b → Finds needing_sql (params_of needed) s.now rows → rows ≡ map ready_shown (needing_list b needed)
   needing_found s rows shown finds =
-      shows_once (λ r n. drop 1 r ≡ need_columns n) (λ v k. v ≡ change_row k) 9 7 needing_test needing_terms (col 2 5) (Binary ∷ []) (params_of needed)
+      shows_once (λ r n. drop 1 r ≡ need_columns n) (λ v k. v ≡ change_table_row k) 9 7 needing_test needing_terms (col 2 5) (Binary ∷ []) (params_of needed)
       (is_need_of needed) (λ n k. out (change_key k) k.approval) passes_both shows_change approval_of (λ (r : Ready). number_shown r.change)
       b.needs b.changes (needing_list b needed) listed passing_for
-      (overlay s.now.trees []) rows (listed_told need_columns (s.now.trees 9) b.needs shown.stands.need.columns_are) (keyed_told change_key change_row (s.now.trees 7) b.changes shown.stands.change)
+      (overlay s.now.trees []) rows (listed_told need_columns (s.now.trees 9) b.needs shown.stands.need.columns_are) (keyed_told change_key change_table_row (s.now.trees 7) b.changes shown.stands.change)
       (ascending-filter (λ (q r : Ready). pos q.approval <ℤ pos r.approval) (λ (r : Ready). needs_it b.needs needed r.change) (ready_list b) (in_order_rises approval_of (ready_rows b.changes)))
       (answers s needing_sql needing_query ready_names (params_of needed) rows needing_is shown.schema_is finds)
 

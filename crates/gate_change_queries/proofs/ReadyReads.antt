@@ -32,7 +32,7 @@ use Rattle.gate_types.specs.declared.rows.ChangeRow.{ChangeRow}
 use Rattle.gate_book_trait.specs.Reads.{Answers}
 use Rattle.gate_book_trait.specs.declared.fault.BookFault.{BookFault}
 use Rattle.gate_book_trait.specs.declared.fault.BookFault.TheVariants as fault
-use Rattle.gate_schema.specs.Rows.{Stored, change_row}
+use Rattle.gate_schema.specs.Rows.{Stored, change_table_row}
 use Rattle.gate_schema.proofs.QueryLemmas.{kept_is, over_table, passes}
 use Rattle.gate_schema.proofs.Statements.{Asks, no_limit}
 use Rattle.gate_schema.proofs.ValueLemmas.{above_number}
@@ -85,16 +85,16 @@ kept_rows rows = map (λ (r : Row). output ready_query ([] ∷ r ∷ [])) (filte
 
 -- a change is kept where it is ready
 one_kept : (k : Change) (o : Option ℕ) (rows : List Row) (more : List Ready) → option_map_or is_drawn_number o true ≡ true → kept_rows rows ≡ map out more →
-    kept_rows (change_row (record { change = k; approval = o }) ∷ rows) ≡ map out (ready_row (record { change = k; approval = o }) ++ more)
+    kept_rows (change_table_row (record { change = k; approval = o }) ∷ rows) ≡ map out (ready_row (record { change = k; approval = o }) ++ more)
 one_kept k None rows more form h = rw null_is_not_above h
 one_kept k (Some a) rows more form h =
     let some : ltb 0 a ≡ true = grind (arith, nat_tests) in
     rw (above_number a 0, some) (ap (λ l. out (record { approval = a; change = k.number }) ∷ l) h)
 
 -- so it is of all changes
-all_kept : (rows : List ChangeRow) → AllByRecursion (λ r. is_change_row_in_form r ≡ true) rows → kept_rows (map change_row rows) ≡ map out (ready_rows rows)
+all_kept : (rows : List ChangeRow) → AllByRecursion (λ r. is_change_row_in_form r ≡ true) rows → kept_rows (map change_table_row rows) ≡ map out (ready_rows rows)
 all_kept [] all = refl
-all_kept (r ∷ rows) all = one_kept r.change r.approval (map change_row rows) (ready_rows rows) (and_parts _ _ all.0).1 (all_kept rows all.1)
+all_kept (r ∷ rows) all = one_kept r.change r.approval (map change_table_row rows) (ready_rows rows) (and_parts _ _ all.0).1 (all_kept rows all.1)
 
 -- ---- they are in form
 

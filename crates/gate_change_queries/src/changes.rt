@@ -7,7 +7,7 @@ ghost use Rattle.gate_types.specs.declared.records.Change.{Change as ChangeOf};
 ghost use Rattle.gate_types.specs.declared.rows.ChangeRow.{ChangeRow};
 ghost use Rattle.gate_book_trait.specs.Reads.{Answers};
 ghost use Rattle.gate_rows.specs.Matches.{needs_in};
-ghost use Rattle.gate_found_rows.specs.Asked.{approval_of, known_change};
+ghost use Rattle.gate_found_rows.specs.Asked.{stored_approval_of, stored_change};
 ghost use Rattle.gate_found_rows.specs.Reads.{IsOnlyRead, Opened, Tells};
 ghost use Rattle.gate_found_rows.specs.Shown.{approval_shown, change_shown, number_shown};
 
@@ -88,7 +88,7 @@ pub fn change<S: Alter>(
     conn: &mut Connection<S>,
     number: ChangeNo,
 ) -> Result<Option<Change>, BookFault>
-    ensures found { Tells (state S.Store conn.old) (state S.Store conn.new) result (λ b. known_change b number) }
+    ensures found { Tells (state S.Store conn.old) (state S.Store conn.new) result (λ b. stored_change b number) }
     ensures opened { Opened (state S.Store conn.old) (state S.Store conn.new) result }
     ensures only_reads { IsOnlyRead (state S.Store conn.old) (state S.Store conn.new) }
 {
@@ -119,7 +119,7 @@ pub fn approval<S: Alter>(
     conn: &mut Connection<S>,
     number: ChangeNo,
 ) -> Result<Option<u64>, BookFault>
-    ensures found { Tells (state S.Store conn.old) (state S.Store conn.new) result (λ b. approval_of b number) }
+    ensures found { Tells (state S.Store conn.old) (state S.Store conn.new) result (λ b. stored_approval_of b number) }
     ensures opened { Opened (state S.Store conn.old) (state S.Store conn.new) result }
     ensures only_reads { IsOnlyRead (state S.Store conn.old) (state S.Store conn.new) }
 {

@@ -12,7 +12,7 @@ use Rattle.gate_config.specs.Document.{list_of, name_of}
 use Rattle.gate_types.specs.Names.{same_name}
 use Rattle.gate_types.proofs.PlainLemmas.{list_any_map}
 use Rattle.gate_config.specs.Rules.{has_double}
-use Rattle.gate_config.specs.Members.{knows, has_other_than}
+use Rattle.gate_config.specs.Members.{may_have, has_other_than}
 use Rattle.gate_config.specs.declared.members.Section.{Section}
 
 pub map_view : {Y : Type 0} (f : Data → Y) (vs : List Value) → map f (map view vs) ≡ map (λ v. f (view v)) vs
@@ -65,6 +65,6 @@ list_of_view [] = refl
 list_of_view (d ∷ ds) = ap (λ l. d ∷ l) (list_of_view ds)
 
 -- a test of the keys of a map is one of the members
-pub has_other_than_view : (s : Section) (es : List (String Global × Value)) → has_other_than s (members_view es) ≡ list_any (λ k. not (knows s (string_bytes k))) (keys_of es)
+pub has_other_than_view : (s : Section) (es : List (String Global × Value)) → has_other_than s (members_view es) ≡ list_any (λ k. not (may_have s (string_bytes k))) (keys_of es)
 has_other_than_view s [] = refl
-has_other_than_view s (e ∷ es) = ap (λ b. not (knows s (string_bytes e.0)) || b) (has_other_than_view s es)
+has_other_than_view s (e ∷ es) = ap (λ b. not (may_have s (string_bytes e.0)) || b) (has_other_than_view s es)

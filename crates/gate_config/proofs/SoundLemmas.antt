@@ -12,8 +12,9 @@ use Rattle.gate_types.specs.Names.{same_name, is_name}
 use Rattle.gate_types.specs.Limits.{most_queues, most_projects, most_jobs, most_window, most_factor}
 use Rattle.gate_types.specs.Settings.{are_distinct, has_queue, is_sound_window, are_sound_jobs, are_sound}
 use Rattle.gate_types.proofs.PlainLemmas.{list_any_map}
-use Rattle.gate_config.specs.Document.{queues_of, projects_of, jobs_of, name_of, queue_named_by, queue_of, job_of}
-use Rattle.gate_config.specs.Document.{project_of, settings_of, window_of, floor_of, increase_by_of, decrease_by_of}
+use Rattle.gate_config.specs.Document.{queues_of, projects_of, jobs_of, name_of, queue_named_by, said_queue, said_job}
+use Rattle.gate_config.specs.Document.{said_project, said_settings, said_window, said_floor, said_increase_by}
+use Rattle.gate_config.specs.Document.{said_decrease_by}
 use Rattle.gate_config.specs.Document.{is_voting}
 use Rattle.gate_config.specs.Members.{misses_member, has_unknown_member}
 use Rattle.gate_config.specs.Kinds.{has_wrong_kind}
@@ -94,22 +95,22 @@ projects_are_good d r =
     (λ p h. rw (named_is_name (queue_named_by p) (queues_of d) (queue_names d r) (not-false _ h)) refl) (projects_of d) r.queues in
     none_both has_bad_name_in_project (λ p. not (is_name (queue_named_by p))) (projects_of d) (project_names d r) named
 
-names_of_queues : (ds : List Data) → map (λ q. q.name) (map queue_of ds) ≡ map name_of ds
+names_of_queues : (ds : List Data) → map (λ q. q.name) (map said_queue ds) ≡ map name_of ds
 names_of_queues [] = refl
 names_of_queues (d ∷ ds) = ap (λ ns. name_of d ∷ ns) (names_of_queues ds)
 
-names_of_projects : (ds : List Data) → map (λ p. p.name) (map project_of ds) ≡ map name_of ds
+names_of_projects : (ds : List Data) → map (λ p. p.name) (map said_project ds) ≡ map name_of ds
 names_of_projects [] = refl
 names_of_projects (d ∷ ds) = ap (λ ns. name_of d ∷ ns) (names_of_projects ds)
 
-names_of_jobs : (ds : List Data) → map (λ j. j.name) (map job_of ds) ≡ map name_of ds
+names_of_jobs : (ds : List Data) → map (λ j. j.name) (map said_job ds) ≡ map name_of ds
 names_of_jobs [] = refl
 names_of_jobs (d ∷ ds) = ap (λ ns. name_of d ∷ ns) (names_of_jobs ds)
 
 few_jobs : (n : ℕ) → nat_lt most_jobs n ≡ false → nat_le n most_jobs ≡ true
 few_jobs n h = grind (arith, nat_tests)
 
-sound_windows : (ds : List Data) → list_any is_bad_window ds ≡ false → list_all is_sound_window (map queue_of ds) ≡ true
+sound_windows : (ds : List Data) → list_any is_bad_window ds ≡ false → list_all is_sound_window (map said_queue ds) ≡ true
 sound_windows [] h = refl
 sound_windows (d ∷ ds) h =
     let (here, later) = or_parts (is_bad_window d) (list_any is_bad_window ds) h in
@@ -117,35 +118,35 @@ sound_windows (d ∷ ds) h =
 
 -- the numbers of a queue that isn't bad
 pub record SmallNumbers (d : Data) : Type 0 where
-  pub window : unwrap_or (window_of d) 0 ≤ most_window
-  pub floor : unwrap_or (floor_of d) 0 ≤ most_window
-  pub increase_by : unwrap_or (increase_by_of d) 0 ≤ most_factor
-  pub decrease_by : unwrap_or (decrease_by_of d) 0 ≤ most_factor
+  pub window : unwrap_or (said_window d) 0 ≤ most_window
+  pub floor : unwrap_or (said_floor d) 0 ≤ most_window
+  pub increase_by : unwrap_or (said_increase_by d) 0 ≤ most_factor
+  pub decrease_by : unwrap_or (said_decrease_by d) 0 ≤ most_factor
 
 pub small_numbers : (d : Data) → is_bad_queue d ≡ false → SmallNumbers d
 small_numbers d h =
-    let sound : is_sound_window (queue_of d) ≡ true = not-false _ (or_parts _ _ (or_parts (has_bad_name d) (is_bad_window d) h).1).1 in
+    let sound : is_sound_window (said_queue d) ≡ true = not-false _ (or_parts _ _ (or_parts (has_bad_name d) (is_bad_window d) h).1).1 in
     let (over, rule) = and_parts _ _ sound in
     let (ranges, floors) = and_parts _ _ over in
     let (low, floor) = and_parts _ _ ranges in
     let (window, least) = and_parts _ _ low in
     let (grows, shrinks) = and_parts _ _ rule in
     record {
-      window = leb-true (unwrap_or (window_of d) 0) most_window window;
-      floor = leb-true (unwrap_or (floor_of d) 0) most_window floor;
-      increase_by = leb-true (unwrap_or (increase_by_of d) 0) most_factor (and_parts _ _ grows).1;
-      decrease_by = leb-true (unwrap_or (decrease_by_of d) 0) most_factor (and_parts _ _ shrinks).1;
+      window = leb-true (unwrap_or (said_window d) 0) most_window window;
+      floor = leb-true (unwrap_or (said_floor d) 0) most_window floor;
+      increase_by = leb-true (unwrap_or (said_increase_by d) 0) most_factor (and_parts _ _ grows).1;
+      decrease_by = leb-true (unwrap_or (said_decrease_by d) 0) most_factor (and_parts _ _ shrinks).1;
     }
 
-sound_jobs : (ds : List Data) → has_double ds ≡ false → list_any is_voting ds ≡ true → nat_lt most_jobs (length ds) ≡ false → are_sound_jobs (map job_of ds) ≡ true
+sound_jobs : (ds : List Data) → has_double ds ≡ false → list_any is_voting ds ≡ true → nat_lt most_jobs (length ds) ≡ false → are_sound_jobs (map said_job ds) ≡ true
 sound_jobs ds doubles votes few =
-    both _ _ (both _ _ (ap (λ n. nat_le n most_jobs) (length-map ds job_of) ∙ few_jobs _ few) (ap are_distinct (names_of_jobs ds) ∙ not-false _ doubles))
-    (list_any_map (λ j. j.voting) job_of ds ∙ votes)
+    both _ _ (both _ _ (ap (λ n. nat_le n most_jobs) (length-map ds said_job) ∙ few_jobs _ few) (ap are_distinct (names_of_jobs ds) ∙ not-false _ doubles))
+    (list_any_map (λ j. j.voting) said_job ds ∙ votes)
 
 -- each project is in a queue that is there, and has sound jobs
 sound_projects : (qs ps : List Data) → list_any (λ p. not (has_named (queue_named_by p) qs)) ps ≡ false → list_any (λ p. has_double (jobs_of p)) ps ≡ false
     → list_any (λ p. not (list_any is_voting (jobs_of p))) ps ≡ false → list_any has_too_many_jobs ps ≡ false
-    → list_all (λ p. has_queue (map queue_of qs) p.queue && are_sound_jobs p.jobs) (map project_of ps) ≡ true
+    → list_all (λ p. has_queue (map said_queue qs) p.queue && are_sound_jobs p.jobs) (map said_project ps) ≡ true
 sound_projects qs [] queues doubles votes few = refl
 sound_projects qs (p ∷ ps) queues doubles votes few =
     let (queue, queues') = or_parts _ _ queues in
@@ -153,11 +154,11 @@ sound_projects qs (p ∷ ps) queues doubles votes few =
     let (vote, votes') = or_parts _ _ votes in
     let (job, few') = or_parts _ _ few in
     both _ _
-    (both _ _ (list_any_map (λ q. same_name q.name (queue_named_by p)) queue_of qs ∙ not-false _ queue) (sound_jobs (jobs_of p) double (not-false _ vote) job))
+    (both _ _ (list_any_map (λ q. same_name q.name (queue_named_by p)) said_queue qs ∙ not-false _ queue) (sound_jobs (jobs_of p) double (not-false _ vote) job))
     (sound_projects qs ps queues' doubles' votes' few')
 
 -- the settings pass each test of sound ones
-pub settings_are_sound : (d : Data) → KeepsRules d → are_sound (settings_of d) ≡ true
+pub settings_are_sound : (d : Data) → KeepsRules d → are_sound (said_settings d) ≡ true
 settings_are_sound d r =
     let (doubles, job_doubles) = or_parts _ _ r.doubles in
     let (queue_doubles, project_doubles) = or_parts _ _ doubles in
@@ -165,8 +166,8 @@ settings_are_sound d r =
     let (queues, projects) = or_parts _ _ counts in
     let (a_queue, few_queues) = and_parts _ _ (not-false _ queues) in
     let (a_project, few_projects) = and_parts _ _ (not-false _ projects) in
-    let m = length-map (queues_of d) queue_of in
-    let n = length-map (projects_of d) project_of in
+    let m = length-map (queues_of d) said_queue in
+    let n = length-map (projects_of d) said_project in
     both _ _ (both _ _ (both _ _ (both _ _ (both _ _ (both _ _ (both _ _
     (ap (λ n. nat_le 1 n) m ∙ a_queue)
     (ap (λ n. nat_le n most_queues) m ∙ few_queues))

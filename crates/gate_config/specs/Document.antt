@@ -31,20 +31,20 @@ abbrev pub jobs_of : Data → List Data
 jobs_of p = items_at (codes "job") p
 
 -- the text at a key, or the empty one
-abbrev pub text_at : List ℕ → Data → List ℕ
-text_at key d = unwrap_or (option_and_then as_str (get key d)) []
+abbrev pub text_or_empty : List ℕ → Data → List ℕ
+text_or_empty key d = unwrap_or (option_and_then as_str (get key d)) []
 
 -- the name of a queue, a project or a job
 abbrev pub name_of : Data → List ℕ
-name_of d = text_at (codes "name") d
+name_of d = text_or_empty (codes "name") d
 
 -- the queue that a project names
 abbrev pub queue_named_by : Data → List ℕ
-queue_named_by p = text_at (codes "queue") p
+queue_named_by p = text_or_empty (codes "queue") p
 
 -- the base of a document
 abbrev pub base_of : Data → List ℕ
-base_of d = option_map_or (text_at (codes "base")) (get (codes "forge") d) []
+base_of d = option_map_or (text_or_empty (codes "base")) (get (codes "forge") d) []
 
 -- a whole number, unless it is negative
 abbrev pub natural : ℤ → Option ℕ
@@ -56,37 +56,37 @@ abbrev pub number_at : List ℕ → ℕ → Data → Option ℕ
 number_at key default d = option_map_or natural (option_and_then as_integer (get key d)) (Some default)
 
 -- the window and the floor of a queue
-abbrev pub window_of : Data → Option ℕ
-window_of q = number_at (codes "window") 20 q
+abbrev pub said_window : Data → Option ℕ
+said_window q = number_at (codes "window") 20 q
 
-abbrev pub floor_of : Data → Option ℕ
-floor_of q = number_at (codes "floor") 3 q
+abbrev pub said_floor : Data → Option ℕ
+said_floor q = number_at (codes "floor") 3 q
 
 -- the pace at a key, or the default where it is left out
 abbrev pub pace_at : List ℕ → Pace → Data → Option Pace
 pace_at key default d = option_map_or pace_named (option_and_then as_str (get key d)) (Some default)
 
 -- how the window of a queue grows, and by what
-abbrev pub increase_of : Data → Option Pace
-increase_of q = pace_at (codes "increase") pace.Linear q
+abbrev pub said_increase : Data → Option Pace
+said_increase q = pace_at (codes "increase") pace.Linear q
 
-abbrev pub increase_by_of : Data → Option ℕ
-increase_by_of q = number_at (codes "increase_by") 1 q
+abbrev pub said_increase_by : Data → Option ℕ
+said_increase_by q = number_at (codes "increase_by") 1 q
 
 -- how it shrinks, and by what
-abbrev pub decrease_of : Data → Option Pace
-decrease_of q = pace_at (codes "decrease") pace.Exponential q
+abbrev pub said_decrease : Data → Option Pace
+said_decrease q = pace_at (codes "decrease") pace.Exponential q
 
-abbrev pub decrease_by_of : Data → Option ℕ
-decrease_by_of q = number_at (codes "decrease_by") 2 q
+abbrev pub said_decrease_by : Data → Option ℕ
+said_decrease_by q = number_at (codes "decrease_by") 2 q
 
 -- the rule of a queue
-abbrev pub rule_of : Data → WindowRule
-rule_of q = record {
-  increase = unwrap_or (increase_of q) pace.Linear;
-  increase_by = unwrap_or (increase_by_of q) 0;
-  decrease = unwrap_or (decrease_of q) pace.Linear;
-  decrease_by = unwrap_or (decrease_by_of q) 0;
+abbrev pub said_rule : Data → WindowRule
+said_rule q = record {
+  increase = unwrap_or (said_increase q) pace.Linear;
+  increase_by = unwrap_or (said_increase_by q) 0;
+  decrease = unwrap_or (said_decrease q) pace.Linear;
+  decrease_by = unwrap_or (said_decrease_by q) 0;
 }
 
 -- whether a project is to fail fast, which it isn't unless it says so
@@ -98,20 +98,24 @@ abbrev pub is_voting : Data → Bool
 is_voting j = unwrap_or (option_and_then as_bool (get (codes "voting") j)) true
 
 -- the settings of a queue
-abbrev pub queue_of : Data → Queue
-queue_of q =
-    record { name = name_of q; window = unwrap_or (window_of q) 0; floor = unwrap_or (floor_of q) 0; rule = rule_of q }
+abbrev pub said_queue : Data → Queue
+said_queue q = record {
+  name = name_of q;
+  window = unwrap_or (said_window q) 0;
+  floor = unwrap_or (said_floor q) 0;
+  rule = said_rule q;
+}
 
 -- the settings of a job
-abbrev pub job_of : Data → Job
-job_of j = record { name = name_of j; voting = is_voting j }
+abbrev pub said_job : Data → Job
+said_job j = record { name = name_of j; voting = is_voting j }
 
 -- the settings of a project
-abbrev pub project_of : Data → Project
-project_of p =
-    record { name = name_of p; queue = queue_named_by p; jobs = map job_of (jobs_of p); fail_fast = is_fast p }
+abbrev pub said_project : Data → Project
+said_project p =
+    record { name = name_of p; queue = queue_named_by p; jobs = map said_job (jobs_of p); fail_fast = is_fast p }
 
 -- the settings that a document says, lists in its order
-abbrev pub settings_of : Data → Settings
-settings_of d =
-    record { base = base_of d; queues = map queue_of (queues_of d); projects = map project_of (projects_of d) }
+abbrev pub said_settings : Data → Settings
+said_settings d =
+    record { base = base_of d; queues = map said_queue (queues_of d); projects = map said_project (projects_of d) }

@@ -24,23 +24,23 @@ misses_member d =
     list_any (lacks (codes "name")) (queues_of d) || list_any lacks_in_project (projects_of d)
 
 -- whether a section may have a member of this name
-abbrev pub knows : Section → List ℕ → Bool
-knows section.Document key =
+abbrev pub may_have : Section → List ℕ → Bool
+may_have section.Document key =
     same_name key (codes "forge") || same_name key (codes "queue") || same_name key (codes "project")
-knows section.Forge key = same_name key (codes "base")
-knows section.Queue key =
+may_have section.Forge key = same_name key (codes "base")
+may_have section.Queue key =
     same_name key (codes "name") || same_name key (codes "window") || same_name key (codes "floor") ||
     same_name key (codes "increase") || same_name key (codes "increase_by") ||
     same_name key (codes "decrease") || same_name key (codes "decrease_by")
-knows section.Project key =
+may_have section.Project key =
     same_name key (codes "name") || same_name key (codes "queue") || same_name key (codes "job") ||
     same_name key (codes "fail_fast")
-knows section.Job key = same_name key (codes "name") || same_name key (codes "voting")
+may_have section.Job key = same_name key (codes "name") || same_name key (codes "voting")
 
 -- a member whose name the section doesn't know
 abbrev pub has_other_than : Section → Members → Bool
 has_other_than s no_members = false
-has_other_than s (member key d ms) = not (knows s key) || has_other_than s ms
+has_other_than s (member key d ms) = not (may_have s key) || has_other_than s ms
 
 -- a table with such a member
 abbrev pub has_unknown : Section → Data → Bool

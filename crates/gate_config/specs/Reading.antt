@@ -4,7 +4,7 @@ use Rattle.std.specs.Str.{is_utf8}
 use Rattle.toml.specs.Data.{Data, table}
 use Rattle.toml.specs.Parse.{parse_document}
 use Rattle.gate_types.specs.Settings.{Settings}
-use Rattle.gate_config.specs.Document.{settings_of}
+use Rattle.gate_config.specs.Document.{said_settings}
 use Rattle.gate_config.specs.Faults.{fault_of}
 use Rattle.gate_config.specs.declared.fault.ConfigFault.{ConfigFault}
 use Rattle.gate_config.specs.declared.fault.ConfigFault.TheVariants as fault
@@ -16,7 +16,7 @@ document bytes = if is_utf8 bytes then option_map table (parse_document bytes) e
 -- the settings, unless there is a fault
 abbrev pub settings_unless : Option ConfigFault → Data → Result Settings ConfigFault
 settings_unless (Some f) d = Err f
-settings_unless None d = Ok (settings_of d)
+settings_unless None d = Ok (said_settings d)
 
 -- the settings of a document without a fault, or the least fault
 abbrev pub read_from : Option Data → Result Settings ConfigFault

@@ -5,8 +5,8 @@ use Rattle.toml.specs.Data.{Data}
 use Rattle.gate_types.specs.Names.{is_name, is_path_name, is_base, same_name}
 use Rattle.gate_types.specs.Limits.{most_queues, most_projects, most_jobs}
 use Rattle.gate_types.specs.Settings.{are_distinct, is_sound_window}
-use Rattle.gate_config.specs.Document.{queues_of, projects_of, jobs_of, name_of, queue_named_by, base_of, window_of}
-use Rattle.gate_config.specs.Document.{floor_of, increase_of, decrease_of, is_voting, queue_of}
+use Rattle.gate_config.specs.Document.{queues_of, projects_of, jobs_of, name_of, queue_named_by, base_of, said_window}
+use Rattle.gate_config.specs.Document.{said_floor, said_increase, said_decrease, is_voting, said_queue}
 
 -- a name of a queue or a job that isn't of its form
 abbrev pub has_bad_name : Data → Bool
@@ -42,8 +42,8 @@ names_no_queue d = list_any (λ p. not (has_named (queue_named_by p) (queues_of 
 -- changes is no word for it or by a number out of its range
 abbrev pub is_bad_window : Data → Bool
 is_bad_window q =
-    is_none (window_of q) || is_none (floor_of q) || is_none (increase_of q) || is_none (decrease_of q) ||
-    not (is_sound_window (queue_of q))
+    is_none (said_window q) || is_none (said_floor q) || is_none (said_increase q) || is_none (said_decrease q) ||
+    not (is_sound_window (said_queue q))
 
 abbrev pub has_bad_window : Data → Bool
 has_bad_window d = list_any is_bad_window (queues_of d)

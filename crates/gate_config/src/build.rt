@@ -3,7 +3,7 @@ ghost use Rattle.std.specs.Prelude.{◌≡◌, None, IfOk, map, false, true};
 ghost use Rattle.std.specs.List.{list_any};
 ghost use Rattle.toml.specs.View.{view};
 ghost use Rattle.gate_types.specs.Names.{is_name, is_path_name, is_base};
-ghost use Rattle.gate_config.specs.Document.{settings_of, rule_of, queue_of, job_of, project_of};
+ghost use Rattle.gate_config.specs.Document.{said_settings, said_rule, said_queue, said_job, said_project};
 ghost use Rattle.gate_config.specs.Faults.{fault_of};
 ghost use Rattle.gate_config.specs.Rules.{has_bad_name, is_bad_queue, is_bad_project};
 
@@ -20,7 +20,7 @@ use toml::Value;
 /// The settings of a document.
 pub(crate) fn config(alloc: Global, document: &Value) -> Result<Config, AllocError>
     requires { fault_of (view document.now) ≡ None }
-    ensures { IfOk result (λ c. c ≡ settings_of (view document.now)) }
+    ensures { IfOk result (λ c. c ≡ said_settings (view document.now)) }
 {
     let base = base(alloc, base_of(document))?;
     let queues = queues(alloc, queues_of(document))?;
@@ -55,7 +55,7 @@ fn path_name(alloc: Global, text: &str) -> Result<PathName, AllocError>
 
 fn rule(value: &Value) -> WindowRule
     requires { is_bad_queue (view value.now) ≡ false }
-    ensures { result ≡ rule_of (view value.now) }
+    ensures { result ≡ said_rule (view value.now) }
 {
     let increase_by = increase_by_of(value).unwrap_or(0);
     let decrease_by = decrease_by_of(value).unwrap_or(0);
@@ -69,7 +69,7 @@ fn rule(value: &Value) -> WindowRule
 
 fn queue(alloc: Global, value: &Value) -> Result<Queue, AllocError>
     requires { is_bad_queue (view value.now) ≡ false }
-    ensures { IfOk result (λ q. q ≡ queue_of (view value.now)) }
+    ensures { IfOk result (λ q. q ≡ said_queue (view value.now)) }
 {
     let name = name(alloc, name_of(value))?;
     let window = window_of(value).unwrap_or(0);
@@ -84,7 +84,7 @@ fn queue(alloc: Global, value: &Value) -> Result<Queue, AllocError>
 
 fn queues(alloc: Global, values: &[Value]) -> Result<Vec<Queue>, AllocError>
     requires { list_any (λ v. is_bad_queue (view v)) values.now ≡ false }
-    ensures { IfOk result (λ qs. qs.items ≡ map (λ v. queue_of (view v)) values.now) }
+    ensures { IfOk result (λ qs. qs.items ≡ map (λ v. said_queue (view v)) values.now) }
 {
     let mut queues = Vec::new(alloc);
     for value in values {
@@ -95,7 +95,7 @@ fn queues(alloc: Global, values: &[Value]) -> Result<Vec<Queue>, AllocError>
 
 fn job(alloc: Global, value: &Value) -> Result<Job, AllocError>
     requires { has_bad_name (view value.now) ≡ false }
-    ensures { IfOk result (λ j. j ≡ job_of (view value.now)) }
+    ensures { IfOk result (λ j. j ≡ said_job (view value.now)) }
 {
     let name = name(alloc, name_of(value))?;
     Ok(Job {
@@ -106,7 +106,7 @@ fn job(alloc: Global, value: &Value) -> Result<Job, AllocError>
 
 fn jobs(alloc: Global, values: &[Value]) -> Result<Vec<Job>, AllocError>
     requires { list_any (λ v. has_bad_name (view v)) values.now ≡ false }
-    ensures { IfOk result (λ js. js.items ≡ map (λ v. job_of (view v)) values.now) }
+    ensures { IfOk result (λ js. js.items ≡ map (λ v. said_job (view v)) values.now) }
 {
     let mut jobs = Vec::new(alloc);
     for value in values {
@@ -117,7 +117,7 @@ fn jobs(alloc: Global, values: &[Value]) -> Result<Vec<Job>, AllocError>
 
 fn project(alloc: Global, value: &Value) -> Result<Project, AllocError>
     requires { is_bad_project (view value.now) ≡ false }
-    ensures { IfOk result (λ p. p ≡ project_of (view value.now)) }
+    ensures { IfOk result (λ p. p ≡ said_project (view value.now)) }
 {
     let path_name = path_name(alloc, name_of(value))?;
     let queue = name(alloc, queue_named_by(value))?;
@@ -132,7 +132,7 @@ fn project(alloc: Global, value: &Value) -> Result<Project, AllocError>
 
 fn projects(alloc: Global, values: &[Value]) -> Result<Vec<Project>, AllocError>
     requires { list_any (λ v. is_bad_project (view v)) values.now ≡ false }
-    ensures { IfOk result (λ ps. ps.items ≡ map (λ v. project_of (view v)) values.now) }
+    ensures { IfOk result (λ ps. ps.items ≡ map (λ v. said_project (view v)) values.now) }
 {
     let mut projects = Vec::new(alloc);
     for value in values {

@@ -2,9 +2,9 @@
 ghost use Rattle.std.specs.Prelude.{◌≡◌, map};
 ghost use Rattle.toml.specs.View.{view};
 ghost use Rattle.gate_types.specs.Names.{same_name};
-ghost use Rattle.gate_config.specs.Document.{items_at, queues_of, projects_of, jobs_of, text_at, name_of};
-ghost use Rattle.gate_config.specs.Document.{queue_named_by, base_of, number_at, window_of, floor_of, pace_at};
-ghost use Rattle.gate_config.specs.Document.{increase_of, increase_by_of, decrease_of, decrease_by_of, is_fast};
+ghost use Rattle.gate_config.specs.Document.{items_at, queues_of, projects_of, jobs_of, text_or_empty, name_of};
+ghost use Rattle.gate_config.specs.Document.{queue_named_by, base_of, number_at, said_window, said_floor, pace_at};
+ghost use Rattle.gate_config.specs.Document.{said_increase, said_increase_by, said_decrease, said_decrease_by, is_fast};
 ghost use Rattle.gate_config.specs.Document.{is_voting};
 
 use gate_types::config::Pace;
@@ -44,7 +44,7 @@ pub(crate) fn jobs_of(project: &Value) -> &[Value]
 
 /// The text at a key, or the empty one.
 pub(crate) fn text_at<'v>(value: &'v Value, key: &str) -> &'v str
-    ensures { result.now ≡ text_at key.now (view value.now) }
+    ensures { result.now ≡ text_or_empty key.now (view value.now) }
 {
     match value.get(key) {
         Some(member) => match member.as_str() {
@@ -96,13 +96,13 @@ fn number_at(value: &Value, key: &str, default: u64) -> Option<u64>
 }
 
 pub(crate) fn window_of(queue: &Value) -> Option<u64>
-    ensures { result ≡ window_of (view queue.now) }
+    ensures { result ≡ said_window (view queue.now) }
 {
     number_at(queue, "window", 20)
 }
 
 pub(crate) fn floor_of(queue: &Value) -> Option<u64>
-    ensures { result ≡ floor_of (view queue.now) }
+    ensures { result ≡ said_floor (view queue.now) }
 {
     number_at(queue, "floor", 3)
 }
@@ -128,25 +128,25 @@ fn pace_at(value: &Value, key: &str, default: Pace) -> Option<Pace>
 }
 
 pub(crate) fn increase_of(queue: &Value) -> Option<Pace>
-    ensures { result ≡ increase_of (view queue.now) }
+    ensures { result ≡ said_increase (view queue.now) }
 {
     pace_at(queue, "increase", Pace::Linear)
 }
 
 pub(crate) fn increase_by_of(queue: &Value) -> Option<u64>
-    ensures { result ≡ increase_by_of (view queue.now) }
+    ensures { result ≡ said_increase_by (view queue.now) }
 {
     number_at(queue, "increase_by", 1)
 }
 
 pub(crate) fn decrease_of(queue: &Value) -> Option<Pace>
-    ensures { result ≡ decrease_of (view queue.now) }
+    ensures { result ≡ said_decrease (view queue.now) }
 {
     pace_at(queue, "decrease", Pace::Exponential)
 }
 
 pub(crate) fn decrease_by_of(queue: &Value) -> Option<u64>
-    ensures { result ≡ decrease_by_of (view queue.now) }
+    ensures { result ≡ said_decrease_by (view queue.now) }
 {
     number_at(queue, "decrease_by", 2)
 }

@@ -28,7 +28,7 @@ use toml::Value;
 ///
 /// # Errors
 ///
-/// The fault with the least number, if the file has any; and `NoMemory` where memory was refused, whatever the file has.
+/// The fault with the least number, if the file has any; and `NoMemory` where memory was refused, whatever the file is.
 pub fn read(alloc: Global, bytes: &[u8]) -> Result<Config, ConfigFault>
     ensures { Gives result (said_by bytes.now) }
 {

@@ -6,7 +6,7 @@ ghost use Rattle.toml.specs.Data.{get};
 ghost use Rattle.std.specs.List.{list_any};
 ghost use Rattle.toml.specs.View.{view, table_view};
 ghost use Rattle.gate_types.specs.Names.{same_name};
-ghost use Rattle.gate_config.specs.Members.{lacks, lacks_in_project, misses_member, knows, has_other_than};
+ghost use Rattle.gate_config.specs.Members.{lacks, lacks_in_project, misses_member, may_have, has_other_than};
 ghost use Rattle.gate_config.specs.Members.{has_unknown, has_unknown_in_project, has_unknown_member};
 
 use crate::document::{is_same, jobs_of, projects_of, queues_of};
@@ -80,13 +80,13 @@ fn knows_of_a_rule(key: &str) -> bool
 }
 
 fn knows_of_a_queue(key: &str) -> bool
-    ensures { result ≡ knows Section.Queue key.now }
+    ensures { result ≡ may_have Section.Queue key.now }
 {
     is_same(key, "name") || is_same(key, "window") || is_same(key, "floor") || knows_of_a_rule(key)
 }
 
 fn knows(section: Section, key: &str) -> bool
-    ensures { result ≡ knows section key.now }
+    ensures { result ≡ may_have section key.now }
 {
     match section {
         Section::Document => is_same(key, "forge")
@@ -103,7 +103,7 @@ fn knows(section: Section, key: &str) -> bool
 }
 
 fn any_key_is_unknown(section: Section, table: &Table) -> bool
-    ensures { result ≡ list_any (λ k. not (knows section (string_bytes k))) (keys table.now) }
+    ensures { result ≡ list_any (λ k. not (may_have section (string_bytes k))) (keys table.now) }
 {
     table.keys().any(|key| !knows(section, key.as_str()))
 }

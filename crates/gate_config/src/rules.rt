@@ -4,8 +4,8 @@ ghost use Rattle.std.specs.List.{list_any};
 ghost use Rattle.toml.specs.View.{view};
 ghost use Rattle.gate_types.specs.Names.{same_name};
 ghost use Rattle.gate_types.specs.Settings.{is_sound_rule};
-ghost use Rattle.gate_config.specs.Document.{name_of, queue_named_by, jobs_of, is_voting, increase_of, decrease_of};
-ghost use Rattle.gate_config.specs.Document.{rule_of};
+ghost use Rattle.gate_config.specs.Document.{name_of, queue_named_by, jobs_of, is_voting, said_increase, said_decrease};
+ghost use Rattle.gate_config.specs.Document.{said_rule};
 ghost use Rattle.gate_config.specs.Rules.{has_bad_name, has_bad_name_in_project, has_bad_name_anywhere, has_double};
 ghost use Rattle.gate_config.specs.Rules.{has_double_name, has_named, names_no_queue, is_bad_window, has_bad_window};
 ghost use Rattle.gate_config.specs.Rules.{has_no_voting_job, are_some_up_to, has_too_many_jobs, is_beyond_limits};
@@ -116,14 +116,14 @@ fn any_names_none_of(projects: &[Value], queues: &[Value]) -> bool
 
 /// Whether both numbers of the rule are in their range. A negative one counts as 0, which isn't.
 fn has_sound_rule(queue: &Value) -> bool
-    ensures { result ≡ is_sound_rule (rule_of (view queue.now)) }
+    ensures { result ≡ is_sound_rule (said_rule (view queue.now)) }
 {
     is_factor(increase_by_of(queue).unwrap_or(0)) && is_factor(decrease_by_of(queue).unwrap_or(0))
 }
 
 /// Whether how the window changes is no word for it.
 fn has_no_pace(queue: &Value) -> bool
-    ensures { result ≡ is_none (increase_of (view queue.now)) || is_none (decrease_of (view queue.now)) }
+    ensures { result ≡ is_none (said_increase (view queue.now)) || is_none (said_decrease (view queue.now)) }
 {
     increase_of(queue).is_none() || decrease_of(queue).is_none()
 }

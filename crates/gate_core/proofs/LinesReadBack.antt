@@ -29,7 +29,7 @@ use Rattle.gate_laws.proofs.LogIsTheGate.{forms_are_in_range}
 use Rattle.gate_wire.specs.declared.door.Door.TheVariants as door
 use Rattle.gate_wire.specs.Reading.{says, read_or_bad, data_says, id_at, kind_at, delivery_at, revision_said}
 use Rattle.gate_wire.specs.Reading.{change_at, revision_at, order_at, build_at, project_at, worker_at, message_at}
-use Rattle.gate_wire.specs.Reading.{ending_at, on_change, number_up_to, text_of_form, or_bad, ◌>>=◌}
+use Rattle.gate_wire.specs.Reading.{ending_at, at_revision, whole_up_to, text_of_form, or_bad, ◌>>=◌}
 use Rattle.gate_archive.specs.Feed.{with_id}
 use Rattle.gate_archive.proofs.LineLaw.{a_line_is_its_delivery_under_its_id}
 use Rattle.gate_core.specs.ReadBack.{EachLineReadsBack}
@@ -119,9 +119,9 @@ read_back digits d h =
 -- what the members say besides the id
 abbrev said_by : List ℕ → Delivery → Result Delivery Refusal
 said_by digits (delivery.Revision n name r message) = revision_said (data_of digits (delivery.Revision n name r message))
-said_by digits (delivery.Approved n r) = on_change delivery.Approved (data_of digits (delivery.Approved n r))
-said_by digits (delivery.Withdrawn n r) = on_change delivery.Withdrawn (data_of digits (delivery.Withdrawn n r))
-said_by digits (delivery.Closed n r) = on_change delivery.Closed (data_of digits (delivery.Closed n r))
+said_by digits (delivery.Approved n r) = at_revision delivery.Approved (data_of digits (delivery.Approved n r))
+said_by digits (delivery.Withdrawn n r) = at_revision delivery.Withdrawn (data_of digits (delivery.Withdrawn n r))
+said_by digits (delivery.Closed n r) = at_revision delivery.Closed (data_of digits (delivery.Closed n r))
 said_by digits (delivery.Landed n) = order_at (data_of digits (delivery.Landed n)) >>= λ order. Ok (delivery.Landed order)
 said_by digits (delivery.Refused n) = order_at (data_of digits (delivery.Refused n)) >>= λ order. Ok (delivery.Refused order)
 said_by digits (delivery.Take worker) = worker_at (data_of digits (delivery.Take worker)) >>= λ worker. Ok (delivery.Take worker)
@@ -151,7 +151,7 @@ id_found digits (delivery.Refused n) = refl
 id_found digits (delivery.Take worker) = refl
 id_found digits (delivery.Result n e) = refl
 
-number_said : (highest n : ℕ) (name : List ℕ) (v : Data) → get name v ≡ Some (serde.number (unsigned n)) → is_up_to highest n ≡ true → number_up_to highest name v ≡ Ok n
+number_said : (highest n : ℕ) (name : List ℕ) (v : Data) → get name v ≡ Some (serde.number (unsigned n)) → is_up_to highest n ≡ true → whole_up_to highest name v ≡ Ok n
 number_said highest n name v e h =
     ap (λ o. or_bad (option_and_then as_u64 (option_and_then as_number o)) >>= λ n. or_bad (passing (λ n. nat_le 1 n && nat_le n highest) n)) e
     ∙ ap (λ b. or_bad (cond b (Some n) None)) h
@@ -166,11 +166,11 @@ id_said id v e h =
     ap (λ o. or_bad (option_and_then as_str o) >>= λ s. or_bad (parsed s) >>= λ bytes. Ok (record { 0 = bytes })) e
     ∙ ap (λ o. or_bad o >>= λ bytes. Ok (record { 0 = bytes })) (sym h)
 
-on_change_said : (made : ℕ → ℕ → Delivery) (v : Data) (n r : ℕ) → change_at v ≡ Ok n → revision_at v ≡ Ok r → on_change made v ≡ Ok (made n r)
+on_change_said : (made : ℕ → ℕ → Delivery) (v : Data) (n r : ℕ) → change_at v ≡ Ok n → revision_at v ≡ Ok r → at_revision made v ≡ Ok (made n r)
 on_change_said made v n r e f = rw (e, f) refl
 
 change_said : (made : ℕ → ℕ → Delivery) (digits word : List ℕ) (n r : ℕ) → is_change_number n ≡ true → is_revision_number r ≡ true →
-    on_change made (change_data digits word n r) ≡ Ok (made n r)
+    at_revision made (change_data digits word n r) ≡ Ok (made n r)
 unfolding change_at revision_at
 change_said made digits word n r hn hr =
     let v = change_data digits word n r in

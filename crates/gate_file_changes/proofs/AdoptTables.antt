@@ -18,7 +18,7 @@ use Rattle.sqlite_tied.specs.Compute.{everything}
 use Rattle.sqlite_trees.specs.Tree.{rowid}
 use Rattle.gate_schema.specs.Rows.{IsFixed, IsReady, Stands, Stored, meta_columns, pair_of_words, queue_columns}
 use Rattle.gate_schema.specs.Rows.{schema_version}
-use Rattle.gate_schema.specs.Schema.{gate_schema, meta_at, queue_at}
+use Rattle.gate_schema.specs.Schema.{gate_schema, meta_table_at, queue_table_at}
 use Rattle.gate_schema.proofs.ChangeLemmas.{changed, listed_changed, numbered_changed, updated_rows}
 use Rattle.gate_schema.proofs.DeleteLemmas.{deleted_ids, leaves_others}
 use Rattle.gate_schema.proofs.QueryLemmas.{over_table, passes, shows_few}
@@ -52,7 +52,7 @@ pub drops_queues : (old new : State) (count : ℕ) → IsReady old → ExecutesI
 drops_queues old new count ready h =
     let program : Program = record { lets = []; body = drop_queues_query } in
     let w = runs_as drop_queues_sql [] old new gate_schema ready.schema_is (Delete 2 program) drop_queues_is.0 drop_queues_is.1 count h.0 in
-    let e = deletes gate_schema (λ _ _ _. refl) old new ready.schema_is 2 (queue_at 4) refl (statement_of drop_queues_sql (understood gate_schema drop_queues_sql)) [] count program w in
+    let e = deletes gate_schema (λ _ _ _. refl) old new ready.schema_is 2 (queue_table_at 4) refl (statement_of drop_queues_sql (understood gate_schema drop_queues_sql)) [] count program w in
     let db = overlay old.now.trees [] in
     let test = passes [] [] in (
       record { schema_is = e.2.schema_is; inside = h.1.mode },
@@ -93,9 +93,9 @@ abbrev key : List ℕ
 key = codes "settings"
 
 made_text : (text : List ℕ) (x : List ℕ × List ℕ) (db : Trees) (v : Row) → drop 1 v ≡ pair_columns x
-    → drop 1 (renewed (meta_at 0) set_settings_terms (Words key ∷ Words text ∷ []) db v) ≡ pair_columns (x.0, text)
+    → drop 1 (renewed (meta_table_at 0) set_settings_terms (Words key ∷ Words text ∷ []) db v) ≡ pair_columns (x.0, text)
 made_text text x db [] is = absurd cc
-made_text text x db (y ∷ rest) is = ap (λ l. drop 1 (renewed (meta_at 0) set_settings_terms (Words key ∷ Words text ∷ []) db (y ∷ l))) is
+made_text text x db (y ∷ rest) is = ap (λ l. drop 1 (renewed (meta_table_at 0) set_settings_terms (Words key ∷ Words text ∷ []) db (y ∷ l))) is
 
 one_of : (text : List ℕ) → length (filter (λ x. bytes_eq x.0 key) (meta_pairs schema_version text)) ≤ 1
 one_of text = omega arith
@@ -109,20 +109,20 @@ sets_settings text old new count ready h =
     let params = Words key ∷ Words text ∷ [] in
     let program : Program = record { lets = []; body = set_settings_query } in
     let w = runs_as set_settings_sql params old new gate_schema ready.schema_is (Update 0 program) set_settings_is.0 set_settings_is.1 count h.0 in
-    let e = updates gate_schema (λ _ _ _. refl) old new ready.schema_is 0 (meta_at 0) refl (statement_of set_settings_sql (understood gate_schema set_settings_sql)) params count program w in
+    let e = updates gate_schema (λ _ _ _. refl) old new ready.schema_is 0 (meta_table_at 0) refl (statement_of set_settings_sql (understood gate_schema set_settings_sql)) params count program w in
     let db = overlay old.now.trees [] in
     let test = passes (key_is 1 ∷ []) params in
-    let new_row = renewed (meta_at 0) set_settings_terms params old.now.trees in
+    let new_row = renewed (meta_table_at 0) set_settings_terms params old.now.trees in
     let same : (v : Row) (x : List ℕ × List ℕ) → drop 1 v ≡ pair_columns x → test v ≡ bytes_eq x.0 key = λ v x is. behind test v _ _ _ (λ y. rw equal_texts (and_true (bytes_eq x.0 key))) is in
     let made : (v : Row) (x : List ℕ × List ℕ) → drop 1 v ≡ pair_columns x → drop 1 (new_row v) ≡ pair_columns (x.0, text) = λ v x is. made_text text x old.now.trees v is in (
       record { schema_is = e.2.schema_is; inside = h.1.mode },
       λ b stands.
           let few : length (filter (λ x. bytes_eq x.0 key) (meta_pairs schema_version b.settings)) ≤ 1 = one_of b.settings in
           let short : length (filter test (old.now.trees 0)) ≤ 1 = subst (λ n. n ≤ 1) (sym (few_found pair_columns test (λ x. bytes_eq x.0 key) same (old.now.trees 0) (meta_pairs schema_version b.settings) stands.meta.columns_are)) few in
-          let rows : e.0 ≡ map (out (meta_at 0) set_settings_terms params old.now.trees) (filter test (old.now.trees 0)) =
+          let rows : e.0 ≡ map (out (meta_table_at 0) set_settings_terms params old.now.trees) (filter test (old.now.trees 0)) =
           shows_few 0 (key_is 1 ∷ []) (col 1 0 ∷ set_settings_terms) [] no_limit db params e.0 short (e.1.answer Null) in
           let left : new.now.trees 0 ≡ changed test new_row (old.now.trees 0) =
-          e.2.applies.rows ∙ written_update (meta_at 0) set_settings_terms params old.now.trees e.0 _ rows short
+          e.2.applies.rows ∙ written_update (meta_table_at 0) set_settings_terms params old.now.trees e.0 _ rows short
           ∙ updated_rows test new_row (old.now.trees 0) stands.meta.numbered (λ r its. int_cast (rowid r) its) short in
           with_text new.now.trees b text (others_stay old new _ 0 b e.2 refl refl stands)
           (subst (IsFixed (meta_columns text)) (sym left) (record {

@@ -14,7 +14,7 @@ use Rattle.sqlite.specs.State.{State, ExecutesInside}
 use Rattle.sqlite_resolve.specs.declared.compiled.Compiled.{Compiled}
 use Rattle.sqlite_resolve.specs.declared.error.CompileError.{CompileError}
 use Rattle.sqlite.proofs.Callers.{IsPlain, command_of, statement_of}
-use Rattle.gate_schema.specs.Made.{IsPlainly, MakesOf, MakesTableOf, MakesIndexOf, Leads}
+use Rattle.gate_schema.specs.Made.{IsPlainly, MakesOf, MakesTableOf, MakesIndexOf, MakeInTurn}
 use Rattle.gate_file_changes.specs.Making.{IsBare}
 use Rattle.gate_file_changes.proofs.MakeLemmas.{makes_table, makes_index}
 use Rattle.gate_types.proofs.PlainLemmas.{all_push}
@@ -58,21 +58,21 @@ makes_bare sql s t (inl m) = bare_table sql s t m
 makes_bare sql s t (inr m) = bare_index sql s t m
 
 -- the next of some texts leads on
-leads_next : {T : Type 0} (f : T → List ℕ) (texts : List T) (i : ℕ) (none : T) (s t : Schema) → i < length texts → Leads (drop i (map f texts)) s t
-    → (mid : Schema) × MakesOf (f (get_or texts i none)) s mid × Leads (drop (suc i) (map f texts)) mid t
+leads_next : {T : Type 0} (f : T → List ℕ) (texts : List T) (i : ℕ) (none : T) (s t : Schema) → i < length texts → MakeInTurn (drop i (map f texts)) s t
+    → (mid : Schema) × MakesOf (f (get_or texts i none)) s mid × MakeInTurn (drop (suc i) (map f texts)) mid t
 leads_next f [] i none s t within h = absurd (omega arith)
 leads_next f (y ∷ ys) zero none s t within h = h
 leads_next f (y ∷ ys) (suc i) none s t within h = leads_next f ys i none s t (omega arith) h
 
 -- the same, counted up
-pub leads_on : {T : Type 0} (f : T → List ℕ) (texts : List T) (i : ℕ) (none : T) (s t : Schema) → i < length texts → Leads (drop i (map f texts)) s t
-    → (mid : Schema) × MakesOf (f (get_or texts i none)) s mid × Leads (drop (i + 1) (map f texts)) mid t
+pub leads_on : {T : Type 0} (f : T → List ℕ) (texts : List T) (i : ℕ) (none : T) (s t : Schema) → i < length texts → MakeInTurn (drop i (map f texts)) s t
+    → (mid : Schema) × MakesOf (f (get_or texts i none)) s mid × MakeInTurn (drop (i + 1) (map f texts)) mid t
 leads_on f texts i none s t within h =
     let next : suc i ≡ i + 1 = omega arith in
-    subst (λ n. (mid : Schema) × MakesOf (f (get_or texts i none)) s mid × Leads (drop n (map f texts)) mid t) next (leads_next f texts i none s t within h)
+    subst (λ n. (mid : Schema) × MakesOf (f (get_or texts i none)) s mid × MakeInTurn (drop n (map f texts)) mid t) next (leads_next f texts i none s t within h)
 
 -- the last one has led to the end
-pub leads_end : {T : Type 0} (f : T → List ℕ) (texts : List T) (i : ℕ) (s t : Schema) → length texts ≤ i → Leads (drop i (map f texts)) s t → s ≡ t
+pub leads_end : {T : Type 0} (f : T → List ℕ) (texts : List T) (i : ℕ) (s t : Schema) → length texts ≤ i → MakeInTurn (drop i (map f texts)) s t → s ≡ t
 leads_end f [] zero s t over h = h
 leads_end f [] (suc i) s t over h = h
 leads_end f (y ∷ ys) zero s t over h = absurd (omega arith)

@@ -20,7 +20,7 @@ use Rattle.sqlite.proofs.Callers.{runs_as, statement_of}
 use Rattle.gate_schema.specs.Rows.{IsReady, IsFixed, IsListed, IsKeyed, meta_columns, counter_columns, pair_of_words}
 use Rattle.gate_schema.specs.Rows.{schema_version}
 use Rattle.gate_schema.specs.Rows.{queue_columns, word_and_number, QueueRow, Stored, Stands}
-use Rattle.gate_schema.specs.Schema.{gate_schema, meta_at, counter_at, queue_at}
+use Rattle.gate_schema.specs.Schema.{gate_schema, meta_table_at, counter_table_at, queue_table_at}
 use Rattle.gate_schema.proofs.RowLemmas.{cast_int, cast_null}
 use Rattle.gate_schema.proofs.Statements.{Is}
 use Rattle.gate_schema.proofs.TableLemmas.{apart, others_stay, with_queues, listed_next}
@@ -93,17 +93,17 @@ pub fills_meta : (settings : List ℕ) (old new : State) (count : ℕ) → IsBar
 fills_meta settings old new count bare h =
     let params = Words settings ∷ [] in
     let w = runs_as fill_meta_sql params old new gate_schema bare.schema_is (Insert 0 (Values fill_meta_terms 3)) fill_meta_is.0 fill_meta_is.1 count h.0 in
-    let e = inserts gate_schema (λ _ _ _. refl) old new bare.schema_is 0 (meta_at 0) refl (statement_of fill_meta_sql (understood gate_schema fill_meta_sql)) params count refl (Values fill_meta_terms 3) w in
+    let e = inserts gate_schema (λ _ _ _. refl) old new bare.schema_is 0 (meta_table_at 0) refl (statement_of fill_meta_sql (understood gate_schema fill_meta_sql)) params count refl (Values fill_meta_terms 3) w in
     let a = pair_of_words (codes "format") (codes "gate") in
     let b = pair_of_words (codes "schema") schema_version in
     let c = pair_of_words (codes "settings") settings in
     let rows : e.0 ≡ (Null ∷ a) ∷ (Null ∷ b) ∷ (Null ∷ c) ∷ [] = e.1.1 in
-    let stored : (k v : List ℕ) → cast_row (meta_at 0) (Null ∷ Words k ∷ Words v ∷ []) ≡ Null ∷ Words k ∷ Words v ∷ [] = λ k v. rw cast_null in
+    let stored : (k v : List ℕ) → cast_row (meta_table_at 0) (Null ∷ Words k ∷ Words v ∷ []) ≡ Null ∷ Words k ∷ Words v ∷ [] = λ k v. rw cast_null in
     let left : new.now.trees 0 ≡ (Int (pos 1) ∷ a) ∷ (Int (pos 2) ∷ b) ∷ (Int (pos 3) ∷ c) ∷ [] =
-    e.2.applies.rows ∙ ap (λ rs. edited old.now.trees (edit_of old.now.trees (meta_at 0) [] Chosen 0 rs)) rows
-    ∙ ap (λ db. put_all db (numbered Chosen db (cast_row (meta_at 0) (Null ∷ a) ∷ cast_row (meta_at 0) (Null ∷ b) ∷ cast_row (meta_at 0) (Null ∷ c) ∷ []))) bare.empty.0
-    ∙ ap (λ r. put_all [] (numbered Chosen [] (r ∷ cast_row (meta_at 0) (Null ∷ b) ∷ cast_row (meta_at 0) (Null ∷ c) ∷ []))) (stored (codes "format") (codes "gate"))
-    ∙ ap (λ r. put_all [] (numbered Chosen [] ((Null ∷ a) ∷ r ∷ cast_row (meta_at 0) (Null ∷ c) ∷ []))) (stored (codes "schema") schema_version)
+    e.2.applies.rows ∙ ap (λ rs. edited old.now.trees (edit_of old.now.trees (meta_table_at 0) [] Chosen 0 rs)) rows
+    ∙ ap (λ db. put_all db (numbered Chosen db (cast_row (meta_table_at 0) (Null ∷ a) ∷ cast_row (meta_table_at 0) (Null ∷ b) ∷ cast_row (meta_table_at 0) (Null ∷ c) ∷ []))) bare.empty.0
+    ∙ ap (λ r. put_all [] (numbered Chosen [] (r ∷ cast_row (meta_table_at 0) (Null ∷ b) ∷ cast_row (meta_table_at 0) (Null ∷ c) ∷ []))) (stored (codes "format") (codes "gate"))
+    ∙ ap (λ r. put_all [] (numbered Chosen [] ((Null ∷ a) ∷ r ∷ cast_row (meta_table_at 0) (Null ∷ c) ∷ []))) (stored (codes "schema") schema_version)
     ∙ ap (λ r. put_all [] (numbered Chosen [] ((Null ∷ a) ∷ (Null ∷ b) ∷ r ∷ []))) (stored (codes "settings") settings)
     ∙ three a b c in
     let t = e.2.applies.tables in
@@ -142,18 +142,18 @@ none_keyed key row rs none = record { rows_are = none; in_order = tt }
 pub fills_counter : (settings : List ℕ) (old new : State) (count : ℕ) → HasMeta settings old → ExecutesInside 0 fill_counter_sql [] old new (Ok count) → IsFilled (first_stored settings []) new
 fills_counter settings old new count had h =
     let w = runs_as fill_counter_sql [] old new gate_schema had.ready.schema_is (Insert 1 (Values fill_counter_terms 3)) fill_counter_is.0 fill_counter_is.1 count h.0 in
-    let e = inserts gate_schema (λ _ _ _. refl) old new had.ready.schema_is 1 (counter_at 2) refl (statement_of fill_counter_sql (understood gate_schema fill_counter_sql)) [] count refl (Values fill_counter_terms 3) w in
+    let e = inserts gate_schema (λ _ _ _. refl) old new had.ready.schema_is 1 (counter_table_at 2) refl (statement_of fill_counter_sql (understood gate_schema fill_counter_sql)) [] count refl (Values fill_counter_terms 3) w in
     let row = λ (k : List ℕ). word_and_number k 0 in
     let a : Row = row (codes "approval") in
     let b : Row = row (codes "build") in
     let c : Row = row (codes "order") in
     let rows : e.0 ≡ (Null ∷ a) ∷ (Null ∷ b) ∷ (Null ∷ c) ∷ [] = e.1.1 in
-    let stored : (k : List ℕ) → cast_row (counter_at 2) (Null ∷ row k) ≡ Null ∷ row k = λ k. rw (cast_null, cast_int) in
+    let stored : (k : List ℕ) → cast_row (counter_table_at 2) (Null ∷ row k) ≡ Null ∷ row k = λ k. rw (cast_null, cast_int) in
     let left : new.now.trees 2 ≡ (Int (pos 1) ∷ a) ∷ (Int (pos 2) ∷ b) ∷ (Int (pos 3) ∷ c) ∷ [] =
-    e.2.applies.rows ∙ ap (λ rs. edited old.now.trees (edit_of old.now.trees (counter_at 2) [] Chosen 0 rs)) rows
-    ∙ ap (λ db. put_all db (numbered Chosen db (cast_row (counter_at 2) (Null ∷ a) ∷ cast_row (counter_at 2) (Null ∷ b) ∷ cast_row (counter_at 2) (Null ∷ c) ∷ []))) had.empty.0
-    ∙ ap (λ r. put_all [] (numbered Chosen [] (r ∷ cast_row (counter_at 2) (Null ∷ b) ∷ cast_row (counter_at 2) (Null ∷ c) ∷ []))) (stored (codes "approval"))
-    ∙ ap (λ r. put_all [] (numbered Chosen [] ((Null ∷ a) ∷ r ∷ cast_row (counter_at 2) (Null ∷ c) ∷ []))) (stored (codes "build"))
+    e.2.applies.rows ∙ ap (λ rs. edited old.now.trees (edit_of old.now.trees (counter_table_at 2) [] Chosen 0 rs)) rows
+    ∙ ap (λ db. put_all db (numbered Chosen db (cast_row (counter_table_at 2) (Null ∷ a) ∷ cast_row (counter_table_at 2) (Null ∷ b) ∷ cast_row (counter_table_at 2) (Null ∷ c) ∷ []))) had.empty.0
+    ∙ ap (λ r. put_all [] (numbered Chosen [] (r ∷ cast_row (counter_table_at 2) (Null ∷ b) ∷ cast_row (counter_table_at 2) (Null ∷ c) ∷ []))) (stored (codes "approval"))
+    ∙ ap (λ r. put_all [] (numbered Chosen [] ((Null ∷ a) ∷ r ∷ cast_row (counter_table_at 2) (Null ∷ c) ∷ []))) (stored (codes "build"))
     ∙ ap (λ r. put_all [] (numbered Chosen [] ((Null ∷ a) ∷ (Null ∷ b) ∷ r ∷ []))) (stored (codes "order"))
     ∙ three a b c in
     let t = e.2.applies.tables in
@@ -183,11 +183,11 @@ pub adds_queue : (q : QueueRow) (old new : State) (count : ℕ) → IsReady old 
 adds_queue q old new count ready h =
     let params = queue_columns q in
     let w = runs_as add_queue_sql params old new gate_schema ready.schema_is (Insert 2 (Values add_queue_terms 4)) add_queue_is.0 add_queue_is.1 count h.0 in
-    let e = inserts gate_schema (λ _ _ _. refl) old new ready.schema_is 2 (queue_at 4) refl (statement_of add_queue_sql (understood gate_schema add_queue_sql)) params count refl (Values add_queue_terms 4) w in
+    let e = inserts gate_schema (λ _ _ _. refl) old new ready.schema_is 2 (queue_table_at 4) refl (statement_of add_queue_sql (understood gate_schema add_queue_sql)) params count refl (Values add_queue_terms 4) w in
     let rows : e.0 ≡ (Null ∷ queue_columns q) ∷ [] = e.1.1 in
-    let stored : cast_row (queue_at 4) (Null ∷ queue_columns q) ≡ Null ∷ queue_columns q = rw (cast_null, cast_int, cast_int) in
+    let stored : cast_row (queue_table_at 4) (Null ∷ queue_columns q) ≡ Null ∷ queue_columns q = rw (cast_null, cast_int, cast_int) in
     let left : new.now.trees 4 ≡ put_row (Int (next_rowid (old.now.trees 4)) ∷ queue_columns q) (old.now.trees 4) =
-    e.2.applies.rows ∙ ap (λ rs. edited old.now.trees (edit_of old.now.trees (queue_at 4) [] Chosen 0 rs)) rows
+    e.2.applies.rows ∙ ap (λ rs. edited old.now.trees (edit_of old.now.trees (queue_table_at 4) [] Chosen 0 rs)) rows
     ∙ ap (λ r. put_row (with_rowid Chosen (old.now.trees 4) r) (old.now.trees 4)) stored in (
       record { schema_is = e.2.schema_is; inside = h.1.mode },
       λ b stands. with_queues new.now.trees b (b.queues ++ q ∷ []) (others_stay old new _ 4 b e.2 refl refl stands)

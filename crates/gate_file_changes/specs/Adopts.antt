@@ -36,7 +36,7 @@ pub record CanAdopt (db : Trees) (c d : Settings) (x : Content) : Type 0 where
   pub stands : StandsFor db c x
 
 -- tables that stand for a lawful content under settings, as a gate leaves them
-pub record IsKept (db : Trees) (c : Settings) (x : Content) : Type 0 where
+pub record StandsForLawful (db : Trees) (c : Settings) (x : Content) : Type 0 where
   pub sound : are_sound c ≡ true
   pub in_form : are_settings_in_form c ≡ true
   pub lawful : IsLawfulContent c x

@@ -2,7 +2,7 @@
 ghost use Rattle.std.specs.Prelude.{◌≡◌, map};
 ghost use Rattle.sqlite.specs.Held.{state};
 ghost use Rattle.gate_rows.specs.Writes.{LeavesNothing};
-ghost use Rattle.gate_schema.specs.Made.{Leads as LeadsTo, MakesOf};
+ghost use Rattle.gate_schema.specs.Made.{MakeInTurn as LeadsTo, MakesOf};
 ghost use Rattle.gate_schema.specs.Schema.{gate_schema, schema_with};
 ghost use Rattle.gate_file_changes.specs.Making.{IsBare, IsInside, KeepsInside, Turns};
 

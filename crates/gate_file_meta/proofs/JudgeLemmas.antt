@@ -15,7 +15,7 @@ use Rattle.gate_types.specs.declared.open_fault.OpenFault.{OpenFault}
 use Rattle.gate_types.specs.declared.open_fault.OpenFault.TheVariants as fault
 use Rattle.gate_kept_settings.specs.Told.{SaysSettings}
 use Rattle.gate_file_meta.specs.Opens.{IsJudged, MayOpen}
-use Rattle.gate_file_meta.specs.Reading.{IsFound, IsFoundOf, IsTold, meta_rows}
+use Rattle.gate_file_meta.specs.Reading.{IsFound, IsFoundOf, IsJudgedOf, meta_rows}
 
 -- None is a copy of nothing
 pub no_copy : (r : Option (Bor (List ℕ))) (t : List ℕ) → r ≡ None → option_copied r ≡ Some t → ⊥
@@ -80,7 +80,7 @@ rows_found rows a b c found format version kept d three p q r pa pb pc gate judg
     told (Err fault.Unavailable) are h = tt
 
 -- what is told of something is told of what follows
-pub told_so : (found : Option OpenFault) (P Q : List ℕ → List ℕ → Type 0) (d : Settings) → ((version kept : List ℕ) → P version kept → Q version kept) → IsTold found P d → IsTold found Q d
+pub told_so : (found : Option OpenFault) (P Q : List ℕ → List ℕ → Type 0) (d : Settings) → ((version kept : List ℕ) → P version kept → Q version kept) → IsJudgedOf found P d → IsJudgedOf found Q d
 told_so None P Q d f h = (h.0, h.1, f _ h.0 h.2)
 told_so (Some fault.WrongFile) P Q d f h = tt
 told_so (Some fault.OtherSchema) P Q d f h = (h.0, h.1, h.2, f h.0 h.1 h.3)

@@ -12,7 +12,7 @@ use Rattle.gate_types.specs.Settings.{Settings}
 use Rattle.gate_types.specs.SettingsText.{settings_text}
 use Rattle.gate_kept_settings.specs.Told.{SaysSettings}
 use Rattle.gate_schema.specs.Rows.{IsFixed, pair_of_words, schema_version}
-use Rattle.gate_schema.specs.Schema.{meta_at}
+use Rattle.gate_schema.specs.Schema.{meta_table_at}
 use Rattle.gate_types.specs.declared.open_fault.OpenFault.{OpenFault}
 use Rattle.gate_types.specs.declared.open_fault.OpenFault.TheVariants as fault
 
@@ -20,7 +20,7 @@ use Rattle.gate_types.specs.declared.open_fault.OpenFault.TheVariants as fault
 
 -- a schema whose first table is `meta`
 abbrev pub with_meta : List Table → List Index → List View → Schema
-with_meta tables indexes views = record { tables = meta_at 0 ∷ tables; indexes = indexes; views = views }
+with_meta tables indexes views = record { tables = meta_table_at 0 ∷ tables; indexes = indexes; views = views }
 
 -- `meta` holds the three rows of a gate's file, with this version and these settings
 abbrev pub IsMeta : Trees → List ℕ → List ℕ → Type 0

@@ -57,19 +57,19 @@ HoldsMeta db version settings =
 -- where `Are v k` says that the file is of version v and keeps settings of text k: it opens with these settings only
 -- if it is of our version and keeps them, or some in whose place they may be taken; a fault blames the version, or the
 -- settings, only where they are others, and these not such
-abbrev pub IsTold : Option OpenFault → (List ℕ → List ℕ → Type 0) → Settings → Type 0
-IsTold None Are d = (kept : List ℕ) × MayOpen kept d × Are schema_version kept
-IsTold (Some fault.WrongFile) Are d = ⊤
-IsTold (Some fault.OtherSchema) Are d =
+abbrev pub IsJudgedOf : Option OpenFault → (List ℕ → List ℕ → Type 0) → Settings → Type 0
+IsJudgedOf None Are d = (kept : List ℕ) × MayOpen kept d × Are schema_version kept
+IsJudgedOf (Some fault.WrongFile) Are d = ⊤
+IsJudgedOf (Some fault.OtherSchema) Are d =
     (version : List ℕ) × (kept : List ℕ) × (version ≢ schema_version) × Are version kept
-IsTold (Some fault.OtherSettings) Are d = (kept : List ℕ) × (MayOpen kept d → ⊥) × Are schema_version kept
-IsTold (Some fault.Unavailable) Are d = ⊤
+IsJudgedOf (Some fault.OtherSettings) Are d = (kept : List ℕ) × (MayOpen kept d → ⊥) × Are schema_version kept
+IsJudgedOf (Some fault.Unavailable) Are d = ⊤
 
 -- a store with these trees is told so: under the schema that they list
 pub record IsToldOf (fault : Option OpenFault) (trees : Trees) (d : Settings) : Type 0 where
   pub schema : Schema
   pub lists : Lists (trees catalog_tree) schema
-  pub told : IsTold fault (ShowsMeta (record { schema = schema; trees = trees })) d
+  pub told : IsJudgedOf fault (ShowsMeta (record { schema = schema; trees = trees })) d
 
 -- the fault that was met, if one was
 abbrev pub met : {X : Type 0} → Result X OpenFault → Option OpenFault
@@ -89,7 +89,7 @@ abbrev pub IsFoundOf : Result (Option Settings) OpenFault → (List ℕ → List
 IsFoundOf (Ok None) Are d = Are schema_version (settings_text d)
 IsFoundOf (Ok (Some c)) Are d =
     (kept : List ℕ) × (kept ≢ settings_text d) × SaysSettings kept c × (may_adopt c d ≡ true) × Are schema_version kept
-IsFoundOf (Err f) Are d = IsTold (Some f) Are d
+IsFoundOf (Err f) Are d = IsJudgedOf (Some f) Are d
 
 -- what is found of a kept text that is another
 abbrev pub IsMet : Result Settings OpenFault → List ℕ → Settings → Type 0

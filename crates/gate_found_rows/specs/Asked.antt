@@ -23,31 +23,31 @@ use Rattle.gate_rows.specs.Matches.{items_of, landings_of, reports_of}
 -- ---- items
 
 -- the item of a serial
-abbrev pub item_at : Stored → ℕ → Option Item
-item_at b serial = option_map (λ (r : ItemRow). r.item) (find (λ (r : ItemRow). item_key r == serial) b.items)
+abbrev pub stored_item_at : Stored → ℕ → Option Item
+stored_item_at b serial = option_map (λ (r : ItemRow). r.item) (find (λ (r : ItemRow). item_key r == serial) b.items)
 
 -- an item, with its queue's name
 abbrev pub queued : ItemRow → QueuedItem
 queued r = record { queue = r.queue; item = r.item }
 
 -- the item of a change, with its queue's name
-abbrev pub queued_of : Stored → ℕ → Option QueuedItem
-queued_of b n = option_map queued (find (λ (r : ItemRow). r.item.change == n) b.items)
+abbrev pub stored_queued_of : Stored → ℕ → Option QueuedItem
+stored_queued_of b n = option_map queued (find (λ (r : ItemRow). r.item.change == n) b.items)
 
 -- the items of a queue above a serial whose change needs this one
-abbrev pub items_needing : Stored → List ℕ → ℕ → ℕ → List Item
-items_needing b name n serial =
+abbrev pub stored_items_needing : Stored → List ℕ → ℕ → ℕ → List Item
+stored_items_needing b name n serial =
     filter (λ (i : Item). nat_lt serial i.serial && needs_it b.needs n i.change) (items_of name b.items)
 
 -- ---- plans
 
 -- the jobs under a serial, in their order
-abbrev pub jobs_of : Stored → ℕ → List Job
-jobs_of b n = map (λ (x : JobRow). x.job) (filter (λ (x : JobRow). x.serial == n) b.jobs)
+abbrev pub stored_jobs_of : Stored → ℕ → List Job
+stored_jobs_of b n = map (λ (x : JobRow). x.job) (filter (λ (x : JobRow). x.serial == n) b.jobs)
 
 -- the item of a serial fails fast
-abbrev pub is_fast : Stored → ℕ → Bool
-is_fast b n = list_any (λ m. m == n) b.fast
+abbrev pub is_stored_fast : Stored → ℕ → Bool
+is_stored_fast b n = list_any (λ m. m == n) b.fast
 
 -- the plan of these jobs; none of no jobs
 abbrev pub plan_with : ℕ → Bool → List Job → Option Plan
@@ -55,23 +55,24 @@ plan_with n fast [] = None
 plan_with n fast (j ∷ js) = Some (record { serial = n; jobs = j ∷ js; fast = fast })
 
 -- the plan under a serial
-abbrev pub plan_at : Stored → ℕ → Option Plan
-plan_at b n = plan_with n (is_fast b n) (jobs_of b n)
+abbrev pub stored_plan_at : Stored → ℕ → Option Plan
+stored_plan_at b n = plan_with n (is_stored_fast b n) (stored_jobs_of b n)
 
 -- the plans of the items of a queue above one serial, up to another, item by item
 abbrev pub plans_between : Stored → List ℕ → ℕ → ℕ → List Plan
 plans_between b name above last =
-    flat_map (λ (i : Item). option_to_list (plan_at b i.serial)) (items_between above last (items_of name b.items))
+    flat_map (λ (i : Item). option_to_list (stored_plan_at b i.serial))
+    (items_between above last (items_of name b.items))
 
 -- ---- changes
 
 -- what is known of a change
-abbrev pub known_change : Stored → ℕ → Option Change
-known_change b n = option_map (λ (r : ChangeRow). r.change) (find (λ (r : ChangeRow). change_key r == n) b.changes)
+abbrev pub stored_change : Stored → ℕ → Option Change
+stored_change b n = option_map (λ (r : ChangeRow). r.change) (find (λ (r : ChangeRow). change_key r == n) b.changes)
 
 -- the number of a change's approval, while it is ready
-abbrev pub approval_of : Stored → ℕ → Option ℕ
-approval_of b n =
+abbrev pub stored_approval_of : Stored → ℕ → Option ℕ
+stored_approval_of b n =
     option_and_then (λ (r : ChangeRow). r.approval) (find (λ (r : ChangeRow). change_key r == n) b.changes)
 
 -- a change that is ready
@@ -96,23 +97,24 @@ pub record AreReadyNeeding (b : Stored) (n : ℕ) (found : List Ready) : Type 0 
 -- ---- builds
 
 -- the build of a number
-abbrev pub build_of : Stored → ℕ → Option Build
-build_of b n = find (λ (x : Build). build_key x == n) b.builds
+abbrev pub stored_build_of : Stored → ℕ → Option Build
+stored_build_of b n = find (λ (x : Build). build_key x == n) b.builds
 
 -- the live builds of a serial
-abbrev pub live_builds : Stored → ℕ → List Build
-live_builds b serial = filter (λ (x : Build). x.live && x.serial == serial) b.builds
+abbrev pub stored_live_builds : Stored → ℕ → List Build
+stored_live_builds b serial = filter (λ (x : Build). x.live && x.serial == serial) b.builds
 
 -- the live builds of the items of a queue above one serial, up to another, item by item
 abbrev pub builds_between : Stored → List ℕ → ℕ → ℕ → List Build
 builds_between b name above last =
-    flat_map (λ (i : Item). live_builds b i.serial) (items_between above last (items_of name b.items))
+    flat_map (λ (i : Item). stored_live_builds b i.serial) (items_between above last (items_of name b.items))
 
 -- ---- queues, landings and reports
 
 -- the window of the queue of a name
-abbrev pub window_of : Stored → List ℕ → Option ℕ
-window_of b name = option_map (λ (q : QueueRow). q.window) (find (λ (q : QueueRow). same_name q.name name) b.queues)
+abbrev pub stored_window_of : Stored → List ℕ → Option ℕ
+stored_window_of b name =
+    option_map (λ (q : QueueRow). q.window) (find (λ (q : QueueRow). same_name q.name name) b.queues)
 
 -- the greatest of these, 0 of none
 abbrev pub greatest : List ℕ → ℕ

@@ -12,5 +12,5 @@ is_want_of_memory (SqliteFailure OutOfMemory) = true
 is_want_of_memory _ = false
 
 -- want of memory where the database says so, else the store's
-abbrev pub fault_of : Error → BookFault
-fault_of e = if is_want_of_memory e then fault.NoMemory else fault.Store
+abbrev pub book_fault_of : Error → BookFault
+book_fault_of e = if is_want_of_memory e then fault.NoMemory else fault.Store

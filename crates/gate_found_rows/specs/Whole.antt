@@ -12,7 +12,7 @@ use Rattle.gate_types.specs.declared.rows.ChangeRow.{ChangeRow}
 use Rattle.gate_schema.specs.Edits.{job_rows}
 use Rattle.gate_schema.specs.Rows.{ItemRow, JobRow, QueueRow, Stored}
 use Rattle.gate_rows.specs.Matches.{NeedsMatch, items_of}
-use Rattle.gate_found_rows.specs.Asked.{jobs_of, ready_rows}
+use Rattle.gate_found_rows.specs.Asked.{stored_jobs_of, ready_rows}
 use Rattle.gate_types.specs.Limits.{most_items, most_window}
 use Rattle.gate_types.specs.Counters.{last_number}
 
@@ -44,7 +44,7 @@ is_planned_in_form x = is_drawn_number x.serial && is_job_row_in_form x
 
 -- the jobs under each serial stand in their order, at the places from 0 on
 abbrev pub ArePlaced : Stored → Type 0
-ArePlaced b = (n : ℕ) → filter (λ (x : JobRow). x.serial == n) b.jobs ≡ job_rows n 0 (jobs_of b n)
+ArePlaced b = (n : ℕ) → filter (λ (x : JobRow). x.serial == n) b.jobs ≡ job_rows n 0 (stored_jobs_of b n)
 
 -- all rows are in form; what has a key of its own stands once; the needs are those of the changes, and the jobs are
 -- placed; no queue has over 1,000 items

@@ -18,7 +18,7 @@ use Rattle.gate_http.specs.Routes.{route_of, path_of, queue_in, place_in}
 use Rattle.gate_http.specs.Way.{Way, silence, refusal, question, stream, refused, recalled, way_on, on_route, by_get}
 use Rattle.gate_http.specs.Way.{decided_of}
 use Rattle.gate_http.specs.Got.{get_head, is_target, path_limit, way_got}
-use Rattle.gate_http.specs.Answer.{Answers, calls_made, gate_after, is_503}
+use Rattle.gate_http.specs.Answer.{AnswersBy, calls_made, gate_after, is_503}
 use Rattle.gate_http.specs.Serving.{GateLeaves, Serves, ServesAs, ServesGet}
 
 -- a request that goes so makes no call
@@ -59,7 +59,7 @@ got_keeps path = go (nat_lt path_limit (length path)) (is_target path)
 
 -- the gate after an answer of a request that makes no call
 stays : (g after : Gated) (w : Way) (served : Served) (text : List ℕ) → Keeps w
-    → Answers form.Content g w served text after → after ≡ g
+    → AnswersBy form.Content g w served text after → after ≡ g
 stays g after w served text keeps a = a.stands ∙ ap (gate_after g) (keeps (is_503 served))
 
 module _ {B : Type 0} (trusted : B → Type 0) (holds : B → Settings → Content → Type 0)
@@ -67,7 +67,7 @@ module _ {B : Type 0} (trusted : B → Type 0) (holds : B → Settings → Conte
   -- what a request came to, and that the gate stays, and what a crash leaves too
   abbrev Stays : Gate B → Gate B → Way → Served → (List ℕ → Type 0) → Type 0
   Stays old new w served Takes = Goes trusted holds old new (λ g after.
-      (after ≡ g) × (text : List ℕ) × Takes text × Answers form.Content g w served text after)
+      (after ≡ g) × (text : List ℕ) × Takes text × AnswersBy form.Content g w served text after)
       × OfGate trusted holds old new (λ x. GateLeaves leaves old new x [])
 
   -- by one text

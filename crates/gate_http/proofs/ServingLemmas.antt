@@ -28,9 +28,9 @@ use Rattle.gate_http.specs.declared.served.Served.TheVariants.{Answered as Answe
 use Rattle.gate_http.specs.Asked.{Asked, delivery, media_of, told_status, is_failure, Streamed}
 use Rattle.gate_http.specs.Response.{fault_in, told_in, stream_in, failure_in}
 use Rattle.gate_http.specs.Way.{Way, silence, refusal as refusing, question, stream, Request, way_of}
-use Rattle.gate_http.specs.Exchange.{IsRead, OfRead, Comes, Recalled, recited, missing, failed, OfLines}
+use Rattle.gate_http.specs.Exchange.{IsRequestRead, OfRead, Comes, Recalled, recited, missing, failed, OfLines}
 use Rattle.gate_http.specs.Answer.{answer_read, answer_to, calls_asked, gate_after, calls_made, served_as, answer}
-use Rattle.gate_http.specs.Answer.{Answers, stream_of, stream_status, is_503}
+use Rattle.gate_http.specs.Answer.{AnswersBy, stream_of, stream_status, is_503}
 use Rattle.gate_http.specs.Serving.{CrashLeaves, GateLeaves, Responds, Recalls, Serves, ServesStream, ServesAs}
 
 -- an answer by its mark
@@ -57,7 +57,7 @@ as_told false g r = refl
 answers_so : (form : Form) (g after : Gated) (wanted : Streamed) (served : Served) (status : ℕ) (text : List ℕ)
     → served ≡ AnsweredBy status → AnsweredBy status ≡ served_as (status == 503) g (stream wanted)
     → text ≡ answer form (status == 503) g (stream wanted) → after ≡ g
-    → Answers form g (stream wanted) served text after
+    → AnswersBy form g (stream wanted) served text after
 answers_so form g after wanted served status text e is said stays = record {
   status = subst (λ s. s ≡ served_as (is_503 s) g (stream wanted)) (sym e) is;
   said = subst (λ s. text ≡ answer form (is_503 s) g (stream wanted)) (sym e) said;
@@ -67,7 +67,7 @@ answers_so form g after wanted served status text e is said stays = record {
 -- the answer with lines
 found_answers : (form : Form) (g after : Gated) (wanted : Streamed) (served : Served) (Takes : List ℕ → Type 0)
     (t : Option (List ℕ)) → stream_of g.content wanted ≡ t → served ≡ AnsweredBy 200 → OfLines form Takes t → after ≡ g
-    → (text : List ℕ) × Takes text × Answers form g (stream wanted) served text after
+    → (text : List ℕ) × Takes text × AnswersBy form g (stream wanted) served text after
 found_answers form g after wanted served Takes None at e h stays = absurd h
 found_answers form g after wanted served Takes (Some t) at e h stays = (
   stream_in form wanted (Some t),
@@ -239,7 +239,7 @@ module _ {B : Type 0} (trusted : B → Type 0) (holds : B → Settings → Conte
 
   -- a request that is answered by HTTP alone leaves all as it was
   serves_nothing : (form : Form) (old : Gate B) (w : Way) (served : Served) (text : List ℕ)
-      → calls_made (is_503 served) w ≡ [] → ((g : Gated) → Answers form g w served text g)
+      → calls_made (is_503 served) w ≡ [] → ((g : Gated) → AnswersBy form g w served text g)
       → Serves trusted holds leaves form old old w served text
   serves_nothing form old w served text none at = record {
     answers = stands old _ at;
@@ -325,7 +325,7 @@ module _ {B : Type 0} (trusted : B → Type 0) (holds : B → Settings → Conte
   serves_told : (form : Form) (old new : Gate B) (wanted : Streamed) (served : Served) (Takes : List ℕ → Type 0)
       (P : Option (List ℕ) → Type 0) → Recalls trusted holds leaves old wanted P new
       → ((g after : Gated) → P (stream_of g.content wanted) → after ≡ g
-      → (text : List ℕ) × Takes text × Answers form g (stream wanted) served text after)
+      → (text : List ℕ) × Takes text × AnswersBy form g (stream wanted) served text after)
       → ServesStream trusted holds leaves form old new wanted served Takes
   serves_told form old new wanted served Takes P r by = record {
     answers = record {
@@ -396,7 +396,7 @@ module _ {B : Type 0} (trusted : B → Type 0) (holds : B → Settings → Conte
       (Takes : List ℕ → Type 0)
       → OfRead from left (λ w.
       Comes (Responds trusted holds leaves) (Recalls trusted holds leaves) form w old Takes new served)
-      → (r : Request) × IsRead from left r × ServesAs trusted holds leaves form old new (way_of r) served Takes
+      → (r : Request) × IsRequestRead from left r × ServesAs trusted holds leaves form old new (way_of r) served Takes
   serves_read form from left old new served Takes h =
       (h.0, h.1, serves_as form (way_of h.0) old new served Takes h.2)
 

@@ -156,7 +156,8 @@ is_503 Nothing = false
 is_503 (Answered status) = status == 503
 
 -- a request may be answered by this text, and the gate is this one then
-pub record Answers (form : Form) (g : Gated) (w : Way) (served : Served) (text : List ℕ) (after : Gated) : Type 0 where
+pub record AnswersBy (form : Form) (g : Gated) (w : Way) (served : Served) (text : List ℕ)
+    (after : Gated) : Type 0 where
   pub status : served ≡ served_as (is_503 served) g w
   pub said : text ≡ answer form (is_503 served) g w
   pub stands : after ≡ gate_after g (calls_made (is_503 served) w)

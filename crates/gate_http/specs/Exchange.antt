@@ -25,7 +25,7 @@ IsKnown None input = ⊤
 IsKnown (Some bytes) input = bytes ≡ input
 
 -- a reader held this request, and of its bytes just those were taken that had to be read
-pub record IsRead (from left : Option (List ℕ)) (r : Request) : Type 0 where
+pub record IsRequestRead (from left : Option (List ℕ)) (r : Request) : Type 0 where
   pub known : IsKnown from r.input
   pub taken : Consumes from left (taken_of r)
 
@@ -100,7 +100,7 @@ Broke recalls f w old Takes new = (wanted : Streamed) × (w ≡ stream wanted) �
 
 -- a reader held a request, and this is so of the way that it goes
 abbrev pub OfRead : Option (List ℕ) → Option (List ℕ) → (Way → Type 0) → Type 0
-OfRead from left P = (r : Request) × IsRead from left r × P (way_of r)
+OfRead from left P = (r : Request) × IsRequestRead from left r × P (way_of r)
 
 -- a tap's reader held a request, and a tap's writer took the whole response
 abbrev pub AnswersTo : {S R W : Type 0} → Responding S → Recalling S → (R → Option (List ℕ)) → (W → Option (List ℕ)) →
@@ -110,9 +110,9 @@ AnswersTo responds recalls left held reader reader_after old new writer writer_a
     Comes responds recalls form.Response w old (Took held writer writer_after) new served)
 
 -- the same, but of the response it took a beginning
-abbrev pub BreaksTo : {S R W : Type 0} → Responding S → Recalling S → (R → Option (List ℕ)) → (W → Option (List ℕ)) →
-    Tap R → Tap R → S → S → Tap W → Tap W → Type 0
-BreaksTo responds recalls left held reader reader_after old new writer writer_after =
+abbrev pub AnswersFront : {S R W : Type 0} → Responding S → Recalling S → (R → Option (List ℕ)) →
+    (W → Option (List ℕ)) → Tap R → Tap R → S → S → Tap W → Tap W → Type 0
+AnswersFront responds recalls left held reader reader_after old new writer writer_after =
     OfRead (left (inside reader)) (left (inside reader_after)) (λ w. (served : Served)
     × Comes responds recalls form.Response w old (TookFront held writer writer_after) new served)
 

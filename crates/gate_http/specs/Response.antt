@@ -46,8 +46,8 @@ allow_line fault.NoItem = []
 allow_line fault.NoDelivery = []
 
 -- a line of a head
-unfoldable pub line : List ℕ → List ℕ → List ℕ
-line name value = name ++ (value ++ codes "\r\n")
+unfoldable pub head_line : List ℕ → List ℕ → List ℕ
+head_line name value = name ++ (value ++ codes "\r\n")
 
 -- its first line
 unfoldable pub status_line : ℕ → List ℕ
@@ -57,8 +57,8 @@ status_line status = codes "HTTP/1.1 " ++ (decimal status ++ (codes " " ++ (phra
 unfoldable pub head_text : ℕ → List ℕ → ℕ → List ℕ → List ℕ
 head_text status kind len allow =
     status_line status
-    ++ (line (codes "Content-Type: ") kind
-    ++ (line (codes "Content-Length: ") (decimal len)
+    ++ (head_line (codes "Content-Type: ") kind
+    ++ (head_line (codes "Content-Length: ") (decimal len)
     ++ (allow ++ codes "Connection: close\r\n\r\n")))
 
 -- the room that a head needs at most
@@ -66,12 +66,12 @@ abbrev pub head_room : ℕ
 head_room = 256
 
 -- the type of JSON
-abbrev pub json : List ℕ
-json = codes "application/json"
+abbrev pub json_kind : List ℕ
+json_kind = codes "application/json"
 
 -- the type of plain text
-abbrev pub plain : List ℕ
-plain = codes "text/plain"
+abbrev pub plain_kind : List ℕ
+plain_kind = codes "text/plain"
 
 -- the content of an answer of HTTP's own
 abbrev pub fault_content : HttpFault → Extent → List ℕ
@@ -80,12 +80,12 @@ fault_content f extent.Head = []
 
 -- the head of the response with it
 abbrev pub fault_head : HttpFault → List ℕ
-fault_head f = head_text (fault_status f) json (length (fault_text f)) (allow_line f)
+fault_head f = head_text (fault_status f) json_kind (length (fault_text f)) (allow_line f)
 
 -- the type of what is told; the status text is plain text, all else is JSON
 abbrev pub told_kind : Media → AnswerIfAny → List ℕ
-told_kind media.Json t = json
-told_kind media.Plain t = if told_status t == 200 then plain else json
+told_kind media.Json t = json_kind
+told_kind media.Plain t = if told_status t == 200 then plain_kind else json_kind
 
 -- the head of the response with it
 abbrev pub told_head : Media → AnswerIfAny → List ℕ
@@ -94,7 +94,7 @@ told_head m t = head_text (told_status t) (told_kind m t) (length (told_text t))
 -- the head of a response that is written line by line, which has no length: its body ends where the connection is
 -- closed
 unfoldable pub stream_head : List ℕ
-stream_head = status_line 200 ++ (line (codes "Content-Type: ") plain ++ codes "Connection: close\r\n\r\n")
+stream_head = status_line 200 ++ (head_line (codes "Content-Type: ") plain_kind ++ codes "Connection: close\r\n\r\n")
 
 -- ---- an answer as a response, or its content alone
 

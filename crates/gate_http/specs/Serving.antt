@@ -13,7 +13,7 @@ use Rattle.gate_http.specs.declared.served.Served.{Served}
 use Rattle.gate_http.specs.Asked.{Asked, Streamed, is_failure}
 use Rattle.gate_http.specs.Way.{Way, stream}
 use Rattle.gate_http.specs.Got.{way_got}
-use Rattle.gate_http.specs.Answer.{Answers, answer_to, calls_asked, calls_made, gate_after, stream_of, is_503}
+use Rattle.gate_http.specs.Answer.{AnswersBy, answer_to, calls_asked, calls_made, gate_after, stream_of, is_503}
 
 -- what a crash leaves after at most one call; where there is none, what it could leave before
 abbrev pub CrashLeaves : Settings → Content → List Call → (List Content → Type 0) → (List Content → Type 0) → Type 0
@@ -46,7 +46,7 @@ pub record Recalls {B : Type 0} (trusted : B → Type 0) (holds : B → Settings
 pub record Serves {B : Type 0} (trusted : B → Type 0) (holds : B → Settings → Content → Type 0)
     (leaves : B → Settings → List Content → Type 0) (f : Form) (old new : Gate B) (w : Way) (served : Served)
     (text : List ℕ) : Type 0 where
-  pub answers : Goes trusted holds old new (λ g after. Answers f g w served text after)
+  pub answers : Goes trusted holds old new (λ g after. AnswersBy f g w served text after)
   pub crash : OfGate trusted holds old new (λ x. GateLeaves leaves old new x (calls_made (is_503 served) w))
 
 -- a request for lines came to a text of which this is so: the plain gate's answer and content, and what a crash
@@ -55,7 +55,7 @@ pub record ServesStream {B : Type 0} (trusted : B → Type 0) (holds : B → Set
     (leaves : B → Settings → List Content → Type 0) (f : Form) (old new : Gate B) (wanted : Streamed) (served : Served)
     (Takes : List ℕ → Type 0) : Type 0 where
   pub answers : Goes trusted holds old new (λ g after.
-      (text : List ℕ) × Takes text × Answers f g (stream wanted) served text after)
+      (text : List ℕ) × Takes text × AnswersBy f g (stream wanted) served text after)
   pub crash : OfGate trusted holds old new (λ x. GateLeaves leaves old new x [])
 
 -- a request came to a text of which this is so
@@ -78,5 +78,5 @@ pub record ServesGet {B : Type 0} (trusted : B → Type 0) (holds : B → Settin
     (leaves : B → Settings → List Content → Type 0) (old new : Gate B) (path : List ℕ) (served : Served)
     (Takes : List ℕ → Type 0) : Type 0 where
   pub answers : Goes trusted holds old new (λ g after.
-      (after ≡ g) × (text : List ℕ) × Takes text × Answers form.Content g (way_got path) served text after)
+      (after ≡ g) × (text : List ℕ) × Takes text × AnswersBy form.Content g (way_got path) served text after)
   pub crash : OfGate trusted holds old new (λ x. GateLeaves leaves old new x [])

@@ -9,7 +9,7 @@ ghost use Rattle.gate_http.specs.declared.request_fault.RequestFault.{RequestFau
 ghost use Rattle.gate_http.specs.Routes.{routes};
 ghost use Rattle.gate_http.specs.Asked.{Streamed};
 ghost use Rattle.gate_http.specs.Way.{Request, way_of, stream};
-ghost use Rattle.gate_http.specs.Exchange.{IsRead};
+ghost use Rattle.gate_http.specs.Exchange.{IsRequestRead};
 ghost use Rattle.gate_http.specs.Serving.{ServesBy};
 ghost use Rattle.gate_http.specs.Connections.{CalledOver, fault_line, AreTold};
 
@@ -98,12 +98,12 @@ fn serve_whole<B: Archive, R: Read, W: Write + Drop>(
     ensures gate { Goes B.IsTrusted B.Holds gate.old gate.new (CalledOver B.LeavesOneOf 1 gate.old gate.new) }
     // nothing of the response is left in the buffer
     ensures sent { OnOk result.0 ((r : Request)
-        × IsRead (R.remaining (inside reader.old)) (R.remaining (inside reader.new)) r
+        × IsRequestRead (R.remaining (inside reader.old)) (R.remaining (inside reader.new)) r
         × (served : Served) × ServesBy B.IsTrusted B.Holds B.LeavesOneOf gate.old gate.new (way_of r) served
         (Appends (writer_contents W.contents writer) (W.contents result.1))) }
     // a history or the deliveries broke off
     ensures store { IsErrOf result.0 RequestFault.Store → (r : Request)
-        × IsRead (R.remaining (inside reader.old)) (R.remaining (inside reader.new)) r
+        × IsRequestRead (R.remaining (inside reader.old)) (R.remaining (inside reader.new)) r
         × (wanted : Streamed) × (way_of r ≡ stream wanted) }
 {
     let mut writer = Tap::new(writer);

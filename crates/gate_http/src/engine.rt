@@ -4,7 +4,7 @@ ghost use Rattle.gate_types.specs.Tap.{inside, has_failed};
 ghost use Rattle.gate_http.specs.Head.{head_limit};
 ghost use Rattle.gate_http.specs.Response.{head_room};
 ghost use Rattle.gate_http.specs.Routes.{routes};
-ghost use Rattle.gate_http.specs.Exchange.{AnswersTo, BreaksTo, StopsAt, Waits};
+ghost use Rattle.gate_http.specs.Exchange.{AnswersTo, AnswersFront, StopsAt, Waits};
 ghost use Rattle.gate_types.specs.Limits.{most_bytes};
 
 use crate::answering::{answer_wanted, refuse, tell};
@@ -42,7 +42,7 @@ fn answer<G: Respond, R: Read, W: Write>(
     requires room { (room.old.items ≡ []) × (head_room ≤ vec_capacity room.old) }
     ensures ok { IfOk result (λ served. AnswersTo G.responds G.recalls R.remaining W.contents
         reader.old reader.new gate.old gate.new writer.old writer.new served) }
-    ensures write { IsErrOf result RequestFault.Write → BreaksTo G.responds G.recalls R.remaining W.contents
+    ensures write { IsErrOf result RequestFault.Write → AnswersFront G.responds G.recalls R.remaining W.contents
         reader.old reader.new gate.old gate.new writer.old writer.new }
     ensures read { IsErrOf result RequestFault.Read →
         Waits (R.remaining (inside reader.old)) (R.remaining (inside reader.new))
@@ -96,7 +96,7 @@ pub(crate) fn answer_routed<G: Respond, R: Read, W: Write>(
     requires router { router.now ≡ routes }
     ensures ok { IfOk result (λ served. AnswersTo G.responds G.recalls R.remaining W.contents
         reader.old reader.new gate.old gate.new writer.old writer.new served) }
-    ensures write { IsErrOf result RequestFault.Write → BreaksTo G.responds G.recalls R.remaining W.contents
+    ensures write { IsErrOf result RequestFault.Write → AnswersFront G.responds G.recalls R.remaining W.contents
         reader.old reader.new gate.old gate.new writer.old writer.new }
     ensures read { IsErrOf result RequestFault.Read →
         Waits (R.remaining (inside reader.old)) (R.remaining (inside reader.new))
@@ -140,7 +140,7 @@ pub fn answer_request<G: Respond, R: Read, W: Write>(
     requires writer { has_failed writer.old ≡ false }
     ensures ok { IfOk result (λ served. AnswersTo G.responds G.recalls R.remaining W.contents
         reader.old reader.new gate.old gate.new writer.old writer.new served) }
-    ensures write { IsErrOf result RequestFault.Write → BreaksTo G.responds G.recalls R.remaining W.contents
+    ensures write { IsErrOf result RequestFault.Write → AnswersFront G.responds G.recalls R.remaining W.contents
         reader.old reader.new gate.old gate.new writer.old writer.new }
     ensures read { IsErrOf result RequestFault.Read →
         Waits (R.remaining (inside reader.old)) (R.remaining (inside reader.new))

@@ -1,7 +1,8 @@
 //! The text of a response, and its writing.
 ghost use Rattle.std.specs.Prelude.{◌≡◌, ◌≤◌, ◌+◌, ◌++◌, [], false, true, OnOk, OnErr, length, vec_len, vec_capacity};
 ghost use Rattle.gate_types.specs.Tap.{has_failed, Took, TookFront};
-ghost use Rattle.gate_http.specs.Response.{phrase, line, status_line, head_text, allow_line, stream_head, front_in};
+ghost use Rattle.gate_http.specs.Response.{phrase, head_line, status_line, head_text, allow_line, stream_head};
+ghost use Rattle.gate_http.specs.Response.{front_in};
 ghost use Rattle.gate_http.specs.Response.{head_in, head_room, written_in};
 
 use crate::fault::HttpFault;
@@ -96,7 +97,7 @@ fn put_status_line(room: &mut Vec<u8>, status: u16)
 /// Appends a line.
 fn put_line(room: &mut Vec<u8>, name: &str, value: &str)
     requires { vec_len room.old + length name.now + length value.now + 2 ≤ vec_capacity room.old }
-    ensures items { room.new.items ≡ room.old.items ++ line name.now value.now }
+    ensures items { room.new.items ≡ room.old.items ++ head_line name.now value.now }
     ensures len { vec_len room.new ≡ vec_len room.old + length name.now + length value.now + 2 }
     ensures capacity { vec_capacity room.old ≤ vec_capacity room.new }
 {

@@ -3,7 +3,7 @@ ghost use Rattle.std.specs.Prelude.{◌≡◌, false, true, OnOk, IfOk, IsErrOf}
 ghost use Rattle.gate_types.specs.Tap.{inside, has_failed, Took, TookFront};
 ghost use Rattle.gate_http.specs.Asked.{Streamed};
 ghost use Rattle.gate_http.specs.Way.{Request, way_of, stream};
-ghost use Rattle.gate_http.specs.Exchange.{IsRead, Waits};
+ghost use Rattle.gate_http.specs.Exchange.{IsRequestRead, Waits};
 ghost use Rattle.gate_http.specs.Serving.{ServesBy};
 
 use crate::engine::answer_request;
@@ -34,12 +34,12 @@ pub fn serve_one<B: Archive, R: Read, W: Write>(
     requires reader { has_failed reader.old ≡ false }
     requires writer { has_failed writer.old ≡ false }
     ensures ok { IfOk result (λ served. (r : Request)
-        × IsRead (R.remaining (inside reader.old)) (R.remaining (inside reader.new)) r
+        × IsRequestRead (R.remaining (inside reader.old)) (R.remaining (inside reader.new)) r
         × ServesBy B.IsTrusted B.Holds B.LeavesOneOf gate.old gate.new (way_of r) served
         (Took W.contents writer.old writer.new)) }
     // a beginning of the answer was written, and all else is as without the fault
     ensures write { IsErrOf result RequestFault.Write → (r : Request)
-        × IsRead (R.remaining (inside reader.old)) (R.remaining (inside reader.new)) r
+        × IsRequestRead (R.remaining (inside reader.old)) (R.remaining (inside reader.new)) r
         × (served : Served) × ServesBy B.IsTrusted B.Holds B.LeavesOneOf gate.old gate.new (way_of r) served
         (TookFront W.contents writer.old writer.new) }
     // what was read was no whole request yet
@@ -50,7 +50,7 @@ pub fn serve_one<B: Archive, R: Read, W: Write>(
         (gate.new ≡ gate.old) × (reader.new ≡ reader.old) × (writer.new ≡ writer.old) }
     // it was lines, of which a beginning was written, and the content stays
     ensures store { IsErrOf result RequestFault.Store → (r : Request)
-        × IsRead (R.remaining (inside reader.old)) (R.remaining (inside reader.new)) r
+        × IsRequestRead (R.remaining (inside reader.old)) (R.remaining (inside reader.new)) r
         × (wanted : Streamed) × (way_of r ≡ stream wanted)
         × ServesBy B.IsTrusted B.Holds B.LeavesOneOf gate.old gate.new (stream wanted) (Served.Answered 200)
         (TookFront W.contents writer.old writer.new) }

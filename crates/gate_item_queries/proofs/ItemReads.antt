@@ -12,7 +12,7 @@ use Rattle.sqlite.specs.declared.types.Value.TheVariants.{Int, Text as Words}
 use Rattle.sqlite_keyed.proofs.ListLemmas.{slice_get-filter}
 use Rattle.sqlite_tied.proofs.RuleLemmas.{and_true}
 use Rattle.gate_types.specs.Names.{same_name}
-use Rattle.gate_schema.specs.Rows.{ItemRow, Stored, item_key, item_row}
+use Rattle.gate_schema.specs.Rows.{ItemRow, Stored, item_key, item_table_row}
 use Rattle.gate_schema.specs.Shown.{item_shown}
 use Rattle.gate_schema.proofs.Statements.{key_is, no_limit}
 use Rattle.gate_schema.proofs.ValueLemmas.{equal_numbers, equal_texts}
@@ -42,7 +42,7 @@ items_found s b name rows shown whole finds =
     let params = Words name ∷ [] in
     let a = answers s items_sql items_query item_names params rows items_is shown.schema_is finds in
     record {
-      shown = finds_rising item_key item_row item_shown 11 (key_is 2 ∷ []) item_terms no_limit params (λ i. same_name i.queue name)
+      shown = finds_rising item_key item_table_row item_shown 11 (key_is 2 ∷ []) item_terms no_limit params (λ i. same_name i.queue name)
           (λ i. rw (equal_texts i.queue name, and_true (same_name i.queue name))) (λ i. refl) (λ i. refl) (overlay s.now.trees []) b.items rows shown.stands.item a;
       in_form = All-filter (λ i. same_name i.queue name) InForm b.items whole.items;
     }
@@ -56,7 +56,7 @@ item_found s b n rows shown whole finds =
     let params = Int (pos n) ∷ [] in
     let a = answers s item_sql item_query item_names params rows item_is shown.schema_is finds in
     record {
-      shown = finds_few item_key item_row item_shown 11 (key_is 0 ∷ []) item_terms no_limit params (λ i. eqb (item_key i) n)
+      shown = finds_few item_key item_table_row item_shown 11 (key_is 0 ∷ []) item_terms no_limit params (λ i. eqb (item_key i) n)
           (λ i. rw (equal_numbers (item_key i) n, and_true (eqb (item_key i) n))) (λ i. refl) (overlay s.now.trees []) b.items rows shown.stands.item
           (one_at item_key n b.items shown.stands.item.in_order) a;
       in_form = All-filter (λ i. eqb (item_key i) n) InForm b.items whole.items;
@@ -78,7 +78,7 @@ queued_found s b n rows shown whole finds =
     let params = Int (pos n) ∷ [] in
     let a = answers s queued_sql queued_query item_names params rows queued_is shown.schema_is finds in
     record {
-      shown = finds_few item_key item_row item_shown 11 (key_is 3 ∷ []) item_terms no_limit params (λ i. eqb i.item.change n)
+      shown = finds_few item_key item_table_row item_shown 11 (key_is 3 ∷ []) item_terms no_limit params (λ i. eqb i.item.change n)
           (λ i. rw (equal_numbers i.item.change n, and_true (eqb i.item.change n))) (λ i. refl) (overlay s.now.trees []) b.items rows shown.stands.item
           (one_of n b.items whole.changes_differ) a;
       in_form = All-filter (λ i. eqb i.item.change n) InForm b.items whole.items;

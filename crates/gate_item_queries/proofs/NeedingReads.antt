@@ -17,7 +17,7 @@ use Rattle.sqlite_rules.proofs.ListLemmas.{has_filtered, has_kept}
 use Rattle.sqlite_tied.proofs.RuleLemmas.{and_true}
 use Rattle.sqlite_value.specs.declared.keys.Collation.{Collation}
 use Rattle.gate_types.specs.Names.{same_name}
-use Rattle.gate_schema.specs.Rows.{ItemRow, NeedRow, Stored, item_key, item_row, need_columns}
+use Rattle.gate_schema.specs.Rows.{ItemRow, NeedRow, Stored, item_key, item_table_row, need_columns}
 use Rattle.gate_schema.specs.Shown.{item_shown, needs_it}
 use Rattle.gate_schema.proofs.ValueLemmas.{above_number, equal_numbers, equal_texts}
 use Rattle.gate_schema.proofs.DeleteLemmas.{filter_same_on}
@@ -82,15 +82,15 @@ module _ (b : Stored) (name : List ℕ) (needed above : ℕ) where
       (need.0, need.1, and_from _ _ need.2 (and_from _ _ need.3 (and_from _ _ first.0 second.0)))
 
   -- a need's row and an item's pass where the need leads to the item
-  passes_both : (r v : Row) (n : NeedRow) (i : ItemRow) → drop 1 r ≡ need_columns n → v ≡ item_row i
+  passes_both : (r v : Row) (n : NeedRow) (i : ItemRow) → drop 1 r ≡ need_columns n → v ≡ item_table_row i
       → list_all (holds (params_of name above needed ∷ r ∷ v ∷ [])) needing_test ≡ is_need_of name needed above n i
   passes_both r v n i tells is =
       subst (λ w. list_all (holds (params_of name above needed ∷ r ∷ w ∷ [])) needing_test ≡ is_need_of name needed above n i) (sym is)
-      (told_behind (λ w. list_all (holds (params_of name above needed ∷ w ∷ item_row i ∷ [])) needing_test) r _ _ (is_need_of name needed above n i)
+      (told_behind (λ w. list_all (holds (params_of name above needed ∷ w ∷ item_table_row i ∷ [])) needing_test) r _ _ (is_need_of name needed above n i)
       (λ w. rw (equal_numbers n.needed needed, equal_numbers i.item.change n.change, plus_text i.queue, equal_texts i.queue name, above_number i.item.serial above, and_true (ltb above i.item.serial))) tells)
 
   -- the item is shown
-  shows_item : (r v : Row) (n : NeedRow) (i : ItemRow) → drop 1 r ≡ need_columns n → v ≡ item_row i
+  shows_item : (r v : Row) (n : NeedRow) (i : ItemRow) → drop 1 r ≡ need_columns n → v ≡ item_table_row i
       → output (over_tables 9 11 needing_test needing_terms needing_order) (params_of name above needed ∷ r ∷ v ∷ []) ≡ made_of i
   shows_item r v n i tells is = subst (λ w. output (over_tables 9 11 needing_test needing_terms needing_order) (params_of name above needed ∷ r ∷ w ∷ []) ≡ made_of i) (sym is) refl
 
@@ -98,14 +98,14 @@ module _ (b : Stored) (name : List ℕ) (needed above : ℕ) where
   needing_shown : (s : State) (rows : List Row) → IsShown s b → Finds needing_sql (params_of name above needed) s.now rows
       → rows ≡ map item_shown (filter (is_needing b name needed above) b.items)
   needing_shown s rows shown finds =
-      shows_once (λ r n. drop 1 r ≡ need_columns n) (λ v i. v ≡ item_row i) 9 11 needing_test needing_terms (col 2 0) others (params_of name above needed)
+      shows_once (λ r n. drop 1 r ≡ need_columns n) (λ v i. v ≡ item_table_row i) 9 11 needing_test needing_terms (col 2 0) others (params_of name above needed)
       (is_need_of name needed above) (λ n i. made_of i) passes_both shows_item item_key behind_serial b.needs b.items (filter (is_needing b name needed above) b.items)
       (λ n i h k passes. (i, has_kept (is_needing b name needed above) b.items i k (needing_by n i h passes), refl))
       (λ i h.
       let passed = has_filtered (is_needing b name needed above) b.items i h in
       let need = leading_to i passed.1 in
       (need.0, i, need.1, passed.0, need.2, refl))
-      (overlay s.now.trees []) rows (listed_told need_columns (s.now.trees 9) b.needs shown.stands.need.columns_are) (keyed_told item_key item_row (s.now.trees 11) b.items shown.stands.item)
+      (overlay s.now.trees []) rows (listed_told need_columns (s.now.trees 9) b.needs shown.stands.need.columns_are) (keyed_told item_key item_table_row (s.now.trees 11) b.items shown.stands.item)
       (ascending-filter (λ (i j : ItemRow). pos (item_key i) <ℤ pos (item_key j)) (is_needing b name needed above) b.items shown.stands.item.in_order)
       (answers s needing_sql needing_query item_names (params_of name above needed) rows needing_is shown.schema_is finds)
 

@@ -19,7 +19,7 @@ use Rattle.gate_types.specs.Names.{is_name, same_name}
 use Rattle.gate_types.specs.declared.records.Item.{Item}
 use Rattle.gate_book_trait.specs.Reads.{Answers}
 use Rattle.gate_book_trait.specs.declared.fault.BookFault.{BookFault}
-use Rattle.gate_schema.specs.Rows.{ItemRow, Stored, item_key, item_row}
+use Rattle.gate_schema.specs.Rows.{ItemRow, Stored, item_key, item_table_row}
 use Rattle.gate_schema.specs.Shown.{item_shown}
 use Rattle.gate_schema.proofs.ValueLemmas.{above_number, equal_texts}
 use Rattle.gate_schema.proofs.DeleteLemmas.{filter_same_on}
@@ -97,7 +97,7 @@ next_found s b name above rows shown whole finds =
     record {
       is = take 1 (filter (is_next name above) b.items);
       shows = record {
-        shown = finds_rising item_key item_row item_shown 11 next_test item_terms one_row params (is_next name to)
+        shown = finds_rising item_key item_table_row item_shown 11 next_test item_terms one_row params (is_next name to)
             (λ i. rw (equal_texts i.queue name, above_number i.item.serial to, and_true (ltb to i.item.serial))) (λ i. refl) (λ i. refl) (overlay s.now.trees []) b.items rows shown.stands.item a
             ∙ ap (λ is. take 1 (map item_shown is)) alike ∙ take-map item_shown 1 _;
         in_form = All-take InForm 1 _ (All-filter (is_next name above) InForm b.items whole.items);
@@ -115,7 +115,7 @@ several_found s b name above most rows shown whole finds =
     let alike : filter (is_next name to) b.items ≡ filter (is_next name above) b.items =
     filter_same_on _ _ b.items (all_so InForm _ (λ i form. ap (λ t. same_name i.queue name && t) (above_capped above i.item.serial (low i form))) b.items whole.items) in
     record {
-      shown = finds_rising item_key item_row item_shown 11 next_test item_terms third params (is_next name to)
+      shown = finds_rising item_key item_table_row item_shown 11 next_test item_terms third params (is_next name to)
           (λ i. rw (equal_texts i.queue name, above_number i.item.serial to, and_true (ltb to i.item.serial))) (λ i. refl) (λ i. refl) (overlay s.now.trees []) b.items rows shown.stands.item a
           ∙ ap (λ is. take most (map item_shown is)) alike ∙ take-map item_shown most _;
       in_form = All-take InForm most _ (All-filter (is_next name above) InForm b.items whole.items);
@@ -134,7 +134,7 @@ last_found s b name below rows shown whole finds =
     record {
       is = take 1 (reverse before);
       shows = record {
-        shown = finds_falling item_key item_row item_shown 11 last_test item_terms one_row params (is_before name to)
+        shown = finds_falling item_key item_table_row item_shown 11 last_test item_terms one_row params (is_before name to)
             (λ i. rw (equal_texts i.queue name, below_number i.item.serial to, and_true (ltb i.item.serial to))) (λ i. refl) (λ i. refl) (overlay s.now.trees []) b.items rows shown.stands.item a
             ∙ ap (λ is. take 1 (map item_shown (reverse is))) alike ∙ take-map item_shown 1 _;
         in_form = All-take InForm 1 _ (All-permutation InForm before (reverse before) (IsPermutation-reverse before) (All-filter (is_before name below) InForm b.items whole.items));

@@ -5,7 +5,7 @@ ghost use Rattle.sqlite.specs.Value.{owned};
 ghost use Rattle.sqlite.specs.declared.types.Value.TheVariants.{Int};
 ghost use Rattle.gate_book_trait.specs.Reads.{first_above, first_items_above, last_below};
 ghost use Rattle.gate_rows.specs.Matches.{items_of};
-ghost use Rattle.gate_found_rows.specs.Asked.{item_at, items_needing, queued_of};
+ghost use Rattle.gate_found_rows.specs.Asked.{stored_item_at, stored_items_needing, stored_queued_of};
 ghost use Rattle.gate_found_rows.specs.Reads.{IsOnlyRead, Opened, Tells};
 
 use crate::item_rows::{all_items, first_above, first_below, first_item, first_queued};
@@ -46,7 +46,7 @@ pub fn items<S: Alter>(conn: &mut Connection<S>, queue: &Name) -> Result<Sequenc
 ///
 /// `NoMemory` where memory is refused, `Store` where the query fails, `Damaged` where a row isn't in form.
 pub fn item<S: Alter>(conn: &mut Connection<S>, number: Serial) -> Result<Option<Item>, BookFault>
-    ensures found { Tells (state S.Store conn.old) (state S.Store conn.new) result (λ b. item_at b number) }
+    ensures found { Tells (state S.Store conn.old) (state S.Store conn.new) result (λ b. stored_item_at b number) }
     ensures opened { Opened (state S.Store conn.old) (state S.Store conn.new) result }
     ensures only_reads { IsOnlyRead (state S.Store conn.old) (state S.Store conn.new) }
 {
@@ -65,7 +65,7 @@ pub fn queued<S: Alter>(
     conn: &mut Connection<S>,
     number: ChangeNo,
 ) -> Result<Option<QueuedItem>, BookFault>
-    ensures found { Tells (state S.Store conn.old) (state S.Store conn.new) result (λ b. queued_of b number) }
+    ensures found { Tells (state S.Store conn.old) (state S.Store conn.new) result (λ b. stored_queued_of b number) }
     ensures opened { Opened (state S.Store conn.old) (state S.Store conn.new) result }
     ensures only_reads { IsOnlyRead (state S.Store conn.old) (state S.Store conn.new) }
 {
@@ -158,7 +158,7 @@ pub fn needing<S: Alter>(
     above: u64,
 ) -> Result<Sequence<Item>, BookFault>
     ensures found { Tells (state S.Store conn.old) (state S.Store conn.new) result (λ b.
-        items_needing b queue.now needed above) }
+        stored_items_needing b queue.now needed above) }
     ensures opened { Opened (state S.Store conn.old) (state S.Store conn.new) result }
     ensures only_reads { IsOnlyRead (state S.Store conn.old) (state S.Store conn.new) }
 {

@@ -13,7 +13,7 @@ use Rattle.gate_types.specs.declared.records.Verdict.TheVariants as verdict
 use Rattle.gate_types.specs.State.{Item}
 use Rattle.gate_types.specs.Line.{Place}
 use Rattle.gate_types.specs.Slot.{are_met_by}
-use Rattle.gate_types.specs.Sweep.{Judged, has_failed, judge, next_staying, judged_after, report_of, report_on}
+use Rattle.gate_types.specs.Sweep.{Judged, fails_for_good, judge, next_staying, judged_after, report_of, report_on}
 use Rattle.gate_types.specs.Lawful.{landing_of}
 use Rattle.gate_types.specs.Rising.{In}
 
@@ -43,7 +43,7 @@ pub unlanded_swept : (bs : List Build) (staying : List Item) (ps : List Place) �
 unlanded_swept bs staying [] = refl
 unlanded_swept bs staying (p ∷ ps) =
     let next = next_staying staying (judge bs staying p) in
-    by_tests (not (are_met_by staying p.needs)) (has_failed bs p) (judged_after bs next ps) (unlanded_swept bs next ps)
+    by_tests (not (are_met_by staying p.needs)) (fails_for_good bs p) (judged_after bs next ps) (unlanded_swept bs next ps)
   where
     by_tests : (a b : Bool) (js : List Judged) → filter_map landing_of (filter_map report_on js) ≡ [] →
         (let v = cond a (Some verdict.Needs) (cond b (Some verdict.Failed) None) in

@@ -8,7 +8,7 @@ use Rattle.gate_book_trait.specs.Faults.{MayAnswer}
 use Rattle.gate_book_trait.specs.Kept.{IsKept, OfHeld}
 use Rattle.gate_book_trait.specs.Reads.{Answers}
 use Rattle.gate_live.specs.Parts.{Agrees}
-use Rattle.gate_live.specs.Both.{HoldsBoth, IsRead}
+use Rattle.gate_live.specs.Both.{HoldsBoth, IsReadOfBoth}
 use Rattle.gate_live.specs.declared.live_book.LiveBook.{LiveBook}
 
 -- calls that only read the book below, and leave what agrees with it
@@ -29,7 +29,7 @@ pub both_read : {B T : Type 0} {trusted : B → Type 0} {holds : B → Settings 
     (old new : LiveBook B) (told : Settings → Content → T) (result : Result T BookFault) →
     IsKept trusted holds leaves old.book new.book → OfHeld trusted holds old.book new.book (λ c x. Agrees old.live c x → Agrees new.live c x) →
     IfErr result (MayAnswer may) → OfHeld trusted holds old.book new.book (λ c x. Agrees old.live c x → Answers (told c x) result) →
-    IsRead trusted holds leaves may old new told result
+    IsReadOfBoth trusted holds leaves may old new told result
 both_read old new told result kept agrees fault found = record {
   found = λ trusted c x held lawful. found trusted c x held.below lawful (held.agrees lawful);
   kept = both_kept old new kept agrees;

@@ -9,7 +9,7 @@ use Rattle.gate_types.specs.declared.records.Ready.{Ready}
 use Rattle.gate_types.specs.declared.rows.ChangeRow.{ChangeRow}
 use Rattle.gate_types.specs.Tables.{approval_of}
 use Rattle.gate_types.specs.Rising.{In}
-use Rattle.gate_book_trait.specs.RowReads.{AreReady, row_of, change_in}
+use Rattle.gate_book_trait.specs.RowReads.{AreReady, change_row_in, change_in}
 use Rattle.gate_book_trait.proofs.Finding.{all_in, in_weaker, found_in, found_has}
 use Rattle.gate_book_trait.proofs.ReadLemmas.{approval_told}
 use Rattle.gate_memory.proofs.LoopLemmas.{all_at}
@@ -21,8 +21,8 @@ use Rattle.gate_live.proofs.ChangeEditLemmas.{number_is}
 
 -- the rows of these ready changes are there, and each row is what it is among all
 pub record AreRead (rows all : List ChangeRow) (rs : List Ready) : Type 0 where
-  pub own : (n : ℕ) → IsSome (row_of rows n) → row_of rows n ≡ row_of all n
-  pub there : AllByRecursion (λ (r : Ready). IsSome (row_of rows r.change)) rs
+  pub own : (n : ℕ) → IsSome (change_row_in rows n) → change_row_in rows n ≡ change_row_in all n
+  pub there : AllByRecursion (λ (r : Ready). IsSome (change_row_in rows r.change)) rs
 
 -- the row of a ready change
 abbrev pub ready_row : Change → ℕ → ChangeRow
@@ -33,10 +33,10 @@ in_at rs i r within at = subst (λ z. In z rs) (sym at) (all_at (λ z. In z rs) 
 
 -- it is that of all
 row_is : (all : List ChangeRow) (rs : List Ready) (r : Ready) (k : Change) → AreReady all rs → In r rs → Some k ≡ change_in all r.change →
-    row_of all r.change ≡ Some (ready_row k r.approval)
-row_is all rs r k ready there known = by_row (row_of all r.change) refl known
+    change_row_in all r.change ≡ Some (ready_row k r.approval)
+row_is all rs r k ready there known = by_row (change_row_in all r.change) refl known
   where
-    by_row : (o : Option ChangeRow) → row_of all r.change ≡ o → Some k ≡ option_map (λ (j : ChangeRow). j.change) o → row_of all r.change ≡ Some (ready_row k r.approval)
+    by_row : (o : Option ChangeRow) → change_row_in all r.change ≡ o → Some k ≡ option_map (λ (j : ChangeRow). j.change) o → change_row_in all r.change ≡ Some (ready_row k r.approval)
     by_row None e known = absurd (true≢false (ap is_some known))
     by_row (Some j) e known =
         let change : j.change ≡ k = cc in
@@ -49,8 +49,8 @@ pub one_read : (rows all : List ChangeRow) (rs : List Ready) (i : ℕ) (r : Read
     Some k ≡ change_in all r.change → AreRead rows all (take i rs) → AreRead (put_row rows (ready_row k r.approval)) all (take (i + 1) rs)
 one_read rows all rs i r k ready within at known read = record {
   own = λ n here. own n (k.number == n) refl here;
-  there = all_more (λ (q : Ready). IsSome (row_of (put_row rows row) q.change)) rs i r within at
-      (in_weaker (λ (q : Ready). IsSome (row_of rows q.change)) (λ (q : Ready). IsSome (row_of (put_row rows row) q.change)) (λ q here. still q.change (k.number == q.change) refl here) (take i rs) read.there)
+  there = all_more (λ (q : Ready). IsSome (change_row_in (put_row rows row) q.change)) rs i r within at
+      (in_weaker (λ (q : Ready). IsSome (change_row_in rows q.change)) (λ (q : Ready). IsSome (change_row_in (put_row rows row) q.change)) (λ q here. still q.change (k.number == q.change) refl here) (take i rs) read.there)
       (ap is_some (put_found row rows r.change (eq-eqb k.number r.change number)));
 }
   where
@@ -63,18 +63,18 @@ one_read rows all rs i r k ready within at known read = record {
     here_in : In r rs
     here_in = in_at rs i r within at
 
-    own : (n : ℕ) (t : Bool) → k.number == n ≡ t → is_some (row_of (put_row rows row) n) ≡ true → row_of (put_row rows row) n ≡ row_of all n
-    own n true e here = put_found row rows n e ∙ sym (row_is all rs r k ready here_in known) ∙ ap (row_of all) (sym number ∙ eqb-true k.number n e)
+    own : (n : ℕ) (t : Bool) → k.number == n ≡ t → is_some (change_row_in (put_row rows row) n) ≡ true → change_row_in (put_row rows row) n ≡ change_row_in all n
+    own n true e here = put_found row rows n e ∙ sym (row_is all rs r k ready here_in known) ∙ ap (change_row_in all) (sym number ∙ eqb-true k.number n e)
     own n false e here = put_other row rows n e ∙ read.own n (sym (ap is_some (put_other row rows n e)) ∙ here)
 
-    still : (n : ℕ) (t : Bool) → k.number == n ≡ t → is_some (row_of rows n) ≡ true → is_some (row_of (put_row rows row) n) ≡ true
+    still : (n : ℕ) (t : Bool) → k.number == n ≡ t → is_some (change_row_in rows n) ≡ true → is_some (change_row_in (put_row rows row) n) ≡ true
     still n true e here = ap is_some (put_found row rows n e)
     still n false e here = ap is_some (put_other row rows n e) ∙ here
 
 -- each is known
 pub none_missing : (all : List ChangeRow) (rs : List Ready) (i : ℕ) (r : Ready) → AreReady all rs → i < length rs → r ≡ get_or rs i r → None ≡ change_in all r.change → ⊥
 none_missing all rs i r ready within at none =
-    by_row (row_of all r.change) none (all_in (λ (q : Ready). IsSome (row_of all q.change)) rs r ready.known (in_at rs i r within at))
+    by_row (change_row_in all r.change) none (all_in (λ (q : Ready). IsSome (change_row_in all q.change)) rs r ready.known (in_at rs i r within at))
   where
     by_row : (o : Option ChangeRow) → None ≡ option_map (λ (j : ChangeRow). j.change) o → is_some o ≡ true → ⊥
     by_row None none here = false≢true here
@@ -87,8 +87,8 @@ all_read rows all rs ready read = record {
   ready = λ n here. read.own n (there n (find (λ (r : Ready). r.change == n) rs) refl (sym (ap is_some (approval_told all rs n ready)) ∙ here));
 }
   where
-    there : (n : ℕ) (o : Option Ready) → find (λ (r : Ready). r.change == n) rs ≡ o → is_some (approval_of rs n) ≡ true → IsSome (row_of rows n)
+    there : (n : ℕ) (o : Option Ready) → find (λ (r : Ready). r.change == n) rs ≡ o → is_some (approval_of rs n) ≡ true → IsSome (change_row_in rows n)
     there n None e here = absurd (false≢true (ap (λ o. is_some (option_map (λ (r : Ready). r.approval) o)) (sym e) ∙ here))
     there n (Some r) e here =
-        subst (λ m. IsSome (row_of rows m)) (found_has (λ (q : Ready). q.change) n r rs (sym e))
-        (all_in (λ (q : Ready). IsSome (row_of rows q.change)) rs r read.there (found_in (λ (q : Ready). q.change == n) rs r e))
+        subst (λ m. IsSome (change_row_in rows m)) (found_has (λ (q : Ready). q.change) n r rs (sym e))
+        (all_in (λ (q : Ready). IsSome (change_row_in rows q.change)) rs r read.there (found_in (λ (q : Ready). q.change == n) rs r e))

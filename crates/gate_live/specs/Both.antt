@@ -43,7 +43,7 @@ AreBothKept trusted holds leaves old new =
 
 -- a read answers this of each lawful content that is held, and keeps them; its faults are those of the book below, or
 -- want of memory
-pub record IsRead {B T : Type 0} (trusted : B → Type 0) (holds : B → Settings → Content → Type 0)
+pub record IsReadOfBoth {B T : Type 0} (trusted : B → Type 0) (holds : B → Settings → Content → Type 0)
     (leaves : B → Settings → List Content → Type 0) (may : BookFault → Type 0) (old new : LiveBook B)
     (told : Settings → Content → T) (result : Result T BookFault) : Type 0 where
   pub found : OfBoth trusted holds old new (λ c x. Answers (told c x) result)

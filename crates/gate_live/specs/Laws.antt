@@ -1,10 +1,10 @@
--- What is true of each read by its contract (`IsRead`) alone.
+-- What is true of each read by its contract (`IsReadOfBoth`) alone.
 use Rattle.std.specs.Prelude.{◌≢◌, List, Result, IsErr}
 use Rattle.gate_types.specs.Settings.{Settings}
 use Rattle.gate_types.specs.Once.{Content}
 use Rattle.gate_types.specs.Forms.{IsLawfulContent}
 use Rattle.gate_book_trait.specs.declared.fault.BookFault.{BookFault}
-use Rattle.gate_live.specs.Both.{HoldsBoth, HoldsNothing, IsRead}
+use Rattle.gate_live.specs.Both.{HoldsBoth, HoldsNothing, IsReadOfBoth}
 use Rattle.gate_live.specs.declared.live_book.LiveBook.{LiveBook}
 
 -- once nothing is held in memory, the book holds each content that the book below holds
@@ -25,5 +25,5 @@ abbrev pub FailsBetweenTwo : {B : Type 0} → Type 0 → (B → Type 0) → (B �
     (B → Settings → List Content → Type 0) → (BookFault → Type 0) → Type 0
 FailsBetweenTwo {B} T trusted holds leaves may = (old new : LiveBook B) (told : Settings → Content → T)
     (result : Result T BookFault) (c : Settings) (x y : Content) →
-    IsRead trusted holds leaves may old new told result → trusted new.book → HoldsTwo holds old c x y →
+    IsReadOfBoth trusted holds leaves may old new told result → trusted new.book → HoldsTwo holds old c x y →
     told c x ≢ told c y → IsErr result × HoldsTwo holds new c x y

@@ -4,7 +4,7 @@ ghost use Rattle.gate_types.specs.Tap.{has_failed};
 ghost use Rattle.gate_book_trait.specs.Writes.{Stops};
 ghost use Rattle.gate_archive.specs.ItemText.{builds_of, last_builds, left_at};
 ghost use Rattle.gate_archive.specs.Writes.{StopsFeed, WritesFeed, WritesHistoryFrom};
-ghost use Rattle.gate_live.specs.Both.{AreBothKept, HoldsNothing, IsRead, OfBoth};
+ghost use Rattle.gate_live.specs.Both.{AreBothKept, HoldsNothing, IsReadOfBoth, OfBoth};
 ghost use Rattle.gate_live.specs.Faults.{feed_may_be_of_store, history_may_be_of_store, is_of_store};
 
 use crate::faults::told;
@@ -19,7 +19,7 @@ use std::io::Write;
 
 impl<B: Archive> Archive for LiveBook<B> {
     fn left(&mut self, serial: Serial) -> Result<Option<LeftItem>, BookFault>
-        ensures reads { IsRead B.IsTrusted B.Holds B.LeavesOneOf B.MayFault self.old self.new (λ _ x.
+        ensures reads { IsReadOfBoth B.IsTrusted B.Holds B.LeavesOneOf B.MayFault self.old self.new (λ _ x.
             left_at x.state serial) result }
         ensures drops { IfErr result (λ f. is_of_store f ≡ true → HoldsNothing self.new) }
     {
@@ -27,7 +27,7 @@ impl<B: Archive> Archive for LiveBook<B> {
     }
 
     fn build_count(&mut self, serial: Serial) -> Result<u64, BookFault>
-        ensures reads { IsRead B.IsTrusted B.Holds B.LeavesOneOf B.MayFault self.old self.new (λ _ x.
+        ensures reads { IsReadOfBoth B.IsTrusted B.Holds B.LeavesOneOf B.MayFault self.old self.new (λ _ x.
             length (builds_of x.state serial)) result }
         ensures drops { IfErr result (λ f. is_of_store f ≡ true → HoldsNothing self.new) }
     {
@@ -39,7 +39,7 @@ impl<B: Archive> Archive for LiveBook<B> {
         serial: Serial,
         most: u32,
     ) -> Result<Sequence<BuildSummary>, BookFault>
-        ensures reads { IsRead B.IsTrusted B.Holds B.LeavesOneOf B.MayFault self.old self.new (λ _ x.
+        ensures reads { IsReadOfBoth B.IsTrusted B.Holds B.LeavesOneOf B.MayFault self.old self.new (λ _ x.
             last_builds x.state serial most) result }
         ensures drops { IfErr result (λ f. is_of_store f ≡ true → HoldsNothing self.new) }
     {

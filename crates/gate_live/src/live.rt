@@ -147,10 +147,10 @@ impl Live {
         let copies = copies(alloc, edits)?;
         self.builds.make_room(copies.len())?;
         self.plans.make_room(copies.len())?;
-        let rows = prepare(alloc, &mut self.changes, edits)?;
+        let changes = prepare(alloc, &mut self.changes, edits)?;
         apply_to(book, &mut self.held, edits)?;
         apply_to_items(&mut self.builds, &mut self.plans, &self.held, copies);
-        edit(&mut self.changes, &self.held, rows, edits);
+        edit(&mut self.changes, &self.held, changes, edits);
         Ok(())
     }
 

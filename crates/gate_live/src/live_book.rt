@@ -11,7 +11,7 @@ ghost use Rattle.gate_book_trait.specs.Faults.{MayAnswer};
 ghost use Rattle.gate_book_trait.specs.Kept.{IsApplied};
 ghost use Rattle.gate_book_trait.specs.Reads as read;
 ghost use Rattle.gate_book_trait.specs.Writes.{Stops, WritesHistory};
-ghost use Rattle.gate_live.specs.Both.{AreBothKept, HoldsBoth, HoldsNothing, IsRead, OfBoth};
+ghost use Rattle.gate_live.specs.Both.{AreBothKept, HoldsBoth, HoldsNothing, IsReadOfBoth, OfBoth};
 ghost use Rattle.gate_live.specs.Faults.{history_may_be_of_store, is_of_store};
 ghost use Rattle.gate_live.specs.Parts.{Agrees};
 
@@ -82,7 +82,7 @@ impl<B: Book> Book for LiveBook<B> {
     ghost leaves_more = { λ r c ys y leaves. B.leaves_more r.book c ys y leaves };
 
     fn delivery(&mut self, id: &Id) -> Result<Option<Kept>, BookFault>
-        ensures reads { IsRead B.IsTrusted B.Holds B.LeavesOneOf B.MayFault self.old self.new (λ _ x.
+        ensures reads { IsReadOfBoth B.IsTrusted B.Holds B.LeavesOneOf B.MayFault self.old self.new (λ _ x.
             kept_for id.now x.kept) result }
         ensures drops { IfErr result (λ f. is_of_store f ≡ true → HoldsNothing self.new) }
     {
@@ -90,7 +90,7 @@ impl<B: Book> Book for LiveBook<B> {
     }
 
     fn change(&mut self, number: ChangeNo) -> Result<Option<Change>, BookFault>
-        ensures reads { IsRead B.IsTrusted B.Holds B.LeavesOneOf B.MayFault self.old self.new (λ _ x.
+        ensures reads { IsReadOfBoth B.IsTrusted B.Holds B.LeavesOneOf B.MayFault self.old self.new (λ _ x.
             known_change x.state number) result }
         ensures drops { IfErr result (λ f. is_of_store f ≡ true → HoldsNothing self.new) }
     {
@@ -101,7 +101,7 @@ impl<B: Book> Book for LiveBook<B> {
     }
 
     fn window(&mut self, queue: &Name) -> Result<Option<u32>, BookFault>
-        ensures reads { IsRead B.IsTrusted B.Holds B.LeavesOneOf B.MayFault self.old self.new (λ _ x.
+        ensures reads { IsReadOfBoth B.IsTrusted B.Holds B.LeavesOneOf B.MayFault self.old self.new (λ _ x.
             read.window_of x.state queue.now) result }
         ensures drops { IfErr result (λ f. is_of_store f ≡ true → HoldsNothing self.new) }
     {
@@ -112,7 +112,7 @@ impl<B: Book> Book for LiveBook<B> {
     }
 
     fn item_count(&mut self, queue: &Name) -> Result<u64, BookFault>
-        ensures reads { IsRead B.IsTrusted B.Holds B.LeavesOneOf B.MayFault self.old self.new (λ c x.
+        ensures reads { IsReadOfBoth B.IsTrusted B.Holds B.LeavesOneOf B.MayFault self.old self.new (λ c x.
             read.item_count c x.state queue.now) result }
         ensures drops { IfErr result (λ f. is_of_store f ≡ true → HoldsNothing self.new) }
     {
@@ -123,7 +123,7 @@ impl<B: Book> Book for LiveBook<B> {
     }
 
     fn landing_count(&mut self, queue: &Name) -> Result<u64, BookFault>
-        ensures reads { IsRead B.IsTrusted B.Holds B.LeavesOneOf B.MayFault self.old self.new (λ _ x.
+        ensures reads { IsReadOfBoth B.IsTrusted B.Holds B.LeavesOneOf B.MayFault self.old self.new (λ _ x.
             read.landing_count x.state queue.now) result }
         ensures drops { IfErr result (λ f. is_of_store f ≡ true → HoldsNothing self.new) }
     {
@@ -134,7 +134,7 @@ impl<B: Book> Book for LiveBook<B> {
     }
 
     fn reports(&mut self, queue: &Name) -> Result<u64, BookFault>
-        ensures reads { IsRead B.IsTrusted B.Holds B.LeavesOneOf B.MayFault self.old self.new (λ _ x.
+        ensures reads { IsReadOfBoth B.IsTrusted B.Holds B.LeavesOneOf B.MayFault self.old self.new (λ _ x.
             read.reports_in x.state queue.now) result }
         ensures drops { IfErr result (λ f. is_of_store f ≡ true → HoldsNothing self.new) }
     {
@@ -145,7 +145,7 @@ impl<B: Book> Book for LiveBook<B> {
     }
 
     fn landing_before(&mut self, queue: &Name, serial: Serial) -> Result<u64, BookFault>
-        ensures reads { IsRead B.IsTrusted B.Holds B.LeavesOneOf B.MayFault self.old self.new (λ _ x.
+        ensures reads { IsReadOfBoth B.IsTrusted B.Holds B.LeavesOneOf B.MayFault self.old self.new (λ _ x.
             read.landings_before x.state queue.now serial) result }
         ensures drops { IfErr result (λ f. is_of_store f ≡ true → HoldsNothing self.new) }
     {
@@ -157,7 +157,7 @@ impl<B: Book> Book for LiveBook<B> {
     }
 
     fn items(&mut self, queue: &Name) -> Result<Sequence<Item>, BookFault>
-        ensures reads { IsRead B.IsTrusted B.Holds B.LeavesOneOf B.MayFault self.old self.new (λ c x.
+        ensures reads { IsReadOfBoth B.IsTrusted B.Holds B.LeavesOneOf B.MayFault self.old self.new (λ c x.
             read.items_in c x.state queue.now) result }
         ensures drops { IfErr result (λ f. is_of_store f ≡ true → HoldsNothing self.new) }
     {
@@ -168,7 +168,7 @@ impl<B: Book> Book for LiveBook<B> {
     }
 
     fn item(&mut self, serial: Serial) -> Result<Option<Item>, BookFault>
-        ensures reads { IsRead B.IsTrusted B.Holds B.LeavesOneOf B.MayFault self.old self.new (λ c x.
+        ensures reads { IsReadOfBoth B.IsTrusted B.Holds B.LeavesOneOf B.MayFault self.old self.new (λ c x.
             read.item_at c x.state serial) result }
         ensures drops { IfErr result (λ f. is_of_store f ≡ true → HoldsNothing self.new) }
     {
@@ -179,7 +179,7 @@ impl<B: Book> Book for LiveBook<B> {
     }
 
     fn queued(&mut self, change: ChangeNo) -> Result<Option<QueuedItem>, BookFault>
-        ensures reads { IsRead B.IsTrusted B.Holds B.LeavesOneOf B.MayFault self.old self.new (λ c x.
+        ensures reads { IsReadOfBoth B.IsTrusted B.Holds B.LeavesOneOf B.MayFault self.old self.new (λ c x.
             read.queued_of c x.state change) result }
         ensures drops { IfErr result (λ f. is_of_store f ≡ true → HoldsNothing self.new) }
     {
@@ -190,7 +190,7 @@ impl<B: Book> Book for LiveBook<B> {
     }
 
     fn next_item(&mut self, queue: &Name, above: u64) -> Result<Option<Item>, BookFault>
-        ensures reads { IsRead B.IsTrusted B.Holds B.LeavesOneOf B.MayFault self.old self.new (λ c x.
+        ensures reads { IsReadOfBoth B.IsTrusted B.Holds B.LeavesOneOf B.MayFault self.old self.new (λ c x.
             read.first_above above (read.items_in c x.state queue.now)) result }
         ensures rises { IfOk result (λ found. IfSome found (λ i. above < i.serial)) }
         ensures drops { IfErr result (λ f. is_of_store f ≡ true → HoldsNothing self.new) }
@@ -206,7 +206,7 @@ impl<B: Book> Book for LiveBook<B> {
     }
 
     fn last_item(&mut self, queue: &Name, below: u64) -> Result<Option<Item>, BookFault>
-        ensures reads { IsRead B.IsTrusted B.Holds B.LeavesOneOf B.MayFault self.old self.new (λ c x.
+        ensures reads { IsReadOfBoth B.IsTrusted B.Holds B.LeavesOneOf B.MayFault self.old self.new (λ c x.
             read.last_below below (read.items_in c x.state queue.now)) result }
         ensures falls { IfOk result (λ found. IfSome found (λ i. i.serial < below)) }
         ensures drops { IfErr result (λ f. is_of_store f ≡ true → HoldsNothing self.new) }
@@ -227,7 +227,7 @@ impl<B: Book> Book for LiveBook<B> {
         above: u64,
         most: u32,
     ) -> Result<Sequence<Item>, BookFault>
-        ensures reads { IsRead B.IsTrusted B.Holds B.LeavesOneOf B.MayFault self.old self.new (λ c x.
+        ensures reads { IsReadOfBoth B.IsTrusted B.Holds B.LeavesOneOf B.MayFault self.old self.new (λ c x.
             read.first_items_above above most (read.items_in c x.state queue.now)) result }
         ensures drops { IfErr result (λ f. is_of_store f ≡ true → HoldsNothing self.new) }
     {
@@ -247,7 +247,7 @@ impl<B: Book> Book for LiveBook<B> {
         change: ChangeNo,
         above: u64,
     ) -> Result<Sequence<Item>, BookFault>
-        ensures reads { IsRead B.IsTrusted B.Holds B.LeavesOneOf B.MayFault self.old self.new (λ c x.
+        ensures reads { IsReadOfBoth B.IsTrusted B.Holds B.LeavesOneOf B.MayFault self.old self.new (λ c x.
             read.items_needing x.state change above (read.items_in c x.state queue.now)) result }
         ensures drops { IfErr result (λ f. is_of_store f ≡ true → HoldsNothing self.new) }
     {
@@ -258,7 +258,7 @@ impl<B: Book> Book for LiveBook<B> {
     }
 
     fn plan(&mut self, serial: Serial) -> Result<Option<Plan>, BookFault>
-        ensures reads { IsRead B.IsTrusted B.Holds B.LeavesOneOf B.MayFault self.old self.new (λ _ x.
+        ensures reads { IsReadOfBoth B.IsTrusted B.Holds B.LeavesOneOf B.MayFault self.old self.new (λ _ x.
             read.plan_at x.state serial) result }
         ensures drops { IfErr result (λ f. is_of_store f ≡ true → HoldsNothing self.new) }
     {
@@ -269,7 +269,7 @@ impl<B: Book> Book for LiveBook<B> {
     }
 
     fn live_builds(&mut self, serial: Serial) -> Result<Sequence<Build>, BookFault>
-        ensures reads { IsRead B.IsTrusted B.Holds B.LeavesOneOf B.MayFault self.old self.new (λ _ x.
+        ensures reads { IsReadOfBoth B.IsTrusted B.Holds B.LeavesOneOf B.MayFault self.old self.new (λ _ x.
             read.live_builds x.state serial) result }
         ensures drops { IfErr result (λ f. is_of_store f ≡ true → HoldsNothing self.new) }
     {
@@ -285,7 +285,7 @@ impl<B: Book> Book for LiveBook<B> {
         above: u64,
         last: Serial,
     ) -> Result<Sequence<Plan>, BookFault>
-        ensures reads { IsRead B.IsTrusted B.Holds B.LeavesOneOf B.MayFault self.old self.new (λ c x.
+        ensures reads { IsReadOfBoth B.IsTrusted B.Holds B.LeavesOneOf B.MayFault self.old self.new (λ c x.
             read.plans_of_items x.state (read.items_between above last (read.items_in c x.state queue.now))) result }
         ensures drops { IfErr result (λ f. is_of_store f ≡ true → HoldsNothing self.new) }
     {
@@ -313,7 +313,7 @@ impl<B: Book> Book for LiveBook<B> {
         above: u64,
         last: Serial,
     ) -> Result<Sequence<Build>, BookFault>
-        ensures reads { IsRead B.IsTrusted B.Holds B.LeavesOneOf B.MayFault self.old self.new (λ c x.
+        ensures reads { IsReadOfBoth B.IsTrusted B.Holds B.LeavesOneOf B.MayFault self.old self.new (λ c x.
             read.builds_of_items x.state (read.items_between above last (read.items_in c x.state queue.now))) result }
         ensures drops { IfErr result (λ f. is_of_store f ≡ true → HoldsNothing self.new) }
     {
@@ -336,7 +336,7 @@ impl<B: Book> Book for LiveBook<B> {
     }
 
     fn build(&mut self, number: BuildNo) -> Result<Option<Build>, BookFault>
-        ensures reads { IsRead B.IsTrusted B.Holds B.LeavesOneOf B.MayFault self.old self.new (λ _ x.
+        ensures reads { IsReadOfBoth B.IsTrusted B.Holds B.LeavesOneOf B.MayFault self.old self.new (λ _ x.
             build_of x.state number) result }
         ensures drops { IfErr result (λ f. is_of_store f ≡ true → HoldsNothing self.new) }
     {
@@ -344,7 +344,7 @@ impl<B: Book> Book for LiveBook<B> {
     }
 
     fn ready(&mut self) -> Result<Sequence<Ready>, BookFault>
-        ensures reads { IsRead B.IsTrusted B.Holds B.LeavesOneOf B.MayFault self.old self.new (λ _ x.
+        ensures reads { IsReadOfBoth B.IsTrusted B.Holds B.LeavesOneOf B.MayFault self.old self.new (λ _ x.
             x.state.ready) result }
         ensures drops { IfErr result (λ f. is_of_store f ≡ true → HoldsNothing self.new) }
     {
@@ -355,7 +355,7 @@ impl<B: Book> Book for LiveBook<B> {
     }
 
     fn approval(&mut self, change: ChangeNo) -> Result<Option<u64>, BookFault>
-        ensures reads { IsRead B.IsTrusted B.Holds B.LeavesOneOf B.MayFault self.old self.new (λ _ x.
+        ensures reads { IsReadOfBoth B.IsTrusted B.Holds B.LeavesOneOf B.MayFault self.old self.new (λ _ x.
             approval_of x.state.ready change) result }
         ensures drops { IfErr result (λ f. is_of_store f ≡ true → HoldsNothing self.new) }
     {
@@ -366,7 +366,7 @@ impl<B: Book> Book for LiveBook<B> {
     }
 
     fn ready_needing(&mut self, change: ChangeNo) -> Result<Sequence<Ready>, BookFault>
-        ensures reads { IsRead B.IsTrusted B.Holds B.LeavesOneOf B.MayFault self.old self.new (λ _ x.
+        ensures reads { IsReadOfBoth B.IsTrusted B.Holds B.LeavesOneOf B.MayFault self.old self.new (λ _ x.
             read.ready_needing x.state change) result }
         ensures drops { IfErr result (λ f. is_of_store f ≡ true → HoldsNothing self.new) }
     {
@@ -377,7 +377,7 @@ impl<B: Book> Book for LiveBook<B> {
     }
 
     fn counters(&mut self) -> Result<Counters, BookFault>
-        ensures reads { IsRead B.IsTrusted B.Holds B.LeavesOneOf B.MayFault self.old self.new (λ _ x.
+        ensures reads { IsReadOfBoth B.IsTrusted B.Holds B.LeavesOneOf B.MayFault self.old self.new (λ _ x.
             x.state.counters) result }
         ensures drops { IfErr result (λ f. is_of_store f ≡ true → HoldsNothing self.new) }
     {

@@ -10,7 +10,7 @@ use Rattle.gate_types.specs.declared.rows.ChangeRow.{ChangeRow}
 use Rattle.gate_types.specs.State.{put_by}
 use Rattle.gate_types.specs.Keys.{number_of_change}
 use Rattle.gate_types.specs.Rising.{RisesFrom, In}
-use Rattle.gate_book_trait.specs.RowReads.{row_of, needs_in}
+use Rattle.gate_book_trait.specs.RowReads.{change_row_in, needs_in}
 use Rattle.gate_book_trait.proofs.Finding.{all_in, in_weaker}
 use Rattle.gate_memory.specs.declared.pairs.Pair.{Pair}
 use Rattle.gate_memory.specs.Pairs.{IsFit}
@@ -60,13 +60,13 @@ are_needs_put old mid new row rows stand gone back more =
     all_from (λ (p : Pair). In p.first (needs_in (put_by number_of_change row rows) p.second)) new
     (λ p t. ⊎_elim
     (λ u. let needed : In p.first (needs_in rows p.second) = all_in (λ (q : Pair). In q.first (needs_in rows q.second)) old p stand (back p u) in
-    subst (λ ns. In p.first ns) (sym (found p.second ∙ ap (λ b. needs_of_row (cond b (Some row) (row_of rows p.second)))
+    subst (λ ns. In p.first ns) (sym (found p.second ∙ ap (λ b. needs_of_row (cond b (Some row) (change_row_in rows p.second)))
     (unequal p.second (others_stand mid (number_of_change row) rows p gone u needed)))) needed)
     (λ (u : (p.second ≡ number_of_change row) × In p.first row.change.needs). subst (λ ns. In p.first ns)
-    (sym (found p.second ∙ ap (λ b. needs_of_row (cond b (Some row) (row_of rows p.second))) (eq-eqb (number_of_change row) p.second (sym u.0)))) u.1)
+    (sym (found p.second ∙ ap (λ b. needs_of_row (cond b (Some row) (change_row_in rows p.second))) (eq-eqb (number_of_change row) p.second (sym u.0)))) u.1)
     (more p t))
   where
-    found : (q : ℕ) → needs_in (put_by number_of_change row rows) q ≡ needs_of_row (cond (number_of_change row == q) (Some row) (row_of rows q))
+    found : (q : ℕ) → needs_in (put_by number_of_change row rows) q ≡ needs_of_row (cond (number_of_change row == q) (Some row) (change_row_in rows q))
     found q = ap needs_of_row (find_put number_of_change q row rows)
 
     unequal : (q : ℕ) → number_of_change row ≢ q → number_of_change row == q ≡ false

@@ -18,7 +18,7 @@ use Rattle.gate_types.specs.Tables.{approval_of}
 use Rattle.gate_types.specs.Keys.{number_of_change}
 use Rattle.gate_types.specs.Rising.{RisesFrom, In}
 use Rattle.gate_memory.specs.declared.pairs.Pair.{Pair}
-use Rattle.gate_book_trait.specs.RowReads.{AreReady, row_of, needs_in, is_ready_needing, ready_needing_in}
+use Rattle.gate_book_trait.specs.RowReads.{AreReady, change_row_in, needs_in, is_ready_needing, ready_needing_in}
 use Rattle.gate_memory.specs.Needs.{pair_of_need}
 use Rattle.gate_memory.specs.TableReads.{if_needing, needing_by}
 use Rattle.gate_book_trait.proofs.Finding.{all_in, found_has, found_in}
@@ -56,9 +56,9 @@ sorted_rises m (r ∷ rs) low up apart =
 
 -- what a pair tells is so
 pair_is : (rows : List ChangeRow) (rs : List Ready) (n : ℕ) (p : Pair) (r : Ready) → AreReady rows rs → needing_by rows n p ≡ Some r → In r (ready_needing_in rows n rs) × (r.change ≡ p.second)
-pair_is rows rs n p r ready told = by_row (row_of rows p.second) refl told
+pair_is rows rs n p r ready told = by_row (change_row_in rows p.second) refl told
   where
-    by_row : (o : Option ChangeRow) → row_of rows p.second ≡ o → option_and_then (if_needing n) o ≡ Some r → In r (ready_needing_in rows n rs) × (r.change ≡ p.second)
+    by_row : (o : Option ChangeRow) → change_row_in rows p.second ≡ o → option_and_then (if_needing n) o ≡ Some r → In r (ready_needing_in rows n rs) × (r.change ≡ p.second)
     by_row None e f = absurd (none-some r f)
     by_row (Some k) e f = by_needs (list_any (λ m. m == n) k.change.needs) refl k.approval refl f
       where
@@ -80,7 +80,7 @@ pair_is rows rs n p r ready told = by_row (row_of rows p.second) refl told
             known = all_in (λ (j : ChangeRow). j.approval ≡ approval_of rs j.change.number) rows k ready.told (found_in (λ (j : ChangeRow). j.change.number == p.second) rows k e)
 
             needs : needs_in rows r.change ≡ k.change.needs
-            needs = ap (λ (o : Option ChangeRow). option_map_or (λ (c : Change). c.needs) (option_map (λ (j : ChangeRow). j.change) o) []) (ap (row_of rows) change ∙ e)
+            needs = ap (λ (o : Option ChangeRow). option_map_or (λ (c : Change). c.needs) (option_map (λ (j : ChangeRow). j.change) o) []) (ap (change_row_in rows) change ∙ e)
 
             by_found : (o : Option Ready) → find (λ (q : Ready). q.change == k.change.number) rs ≡ o → Some b ≡ option_map (λ (q : Ready). q.approval) o → In r (ready_needing_in rows n rs) × (r.change ≡ p.second)
             by_found None i a = absurd (none-some b (sym a))
@@ -93,12 +93,12 @@ pair_is rows rs n p r ready told = by_row (row_of rows p.second) refl told
 
 -- who is ready and needs the change is told by its pair
 pair_tells : (rows : List ChangeRow) (rs : List Ready) (n : ℕ) (r : Ready) → AreReady rows rs → In r (ready_needing_in rows n rs) → needing_by rows n (pair_of_need n r.change) ≡ Some r
-pair_tells rows rs n r ready there = by_row (row_of rows r.change) refl (all_in (λ (s : Ready). IsSome (row_of rows s.change)) rs r ready.known kept.0)
+pair_tells rows rs n r ready there = by_row (change_row_in rows r.change) refl (all_in (λ (s : Ready). IsSome (change_row_in rows s.change)) rs r ready.known kept.0)
   where
     kept : In r rs × (is_ready_needing rows n r ≡ true)
     kept = from_filter (is_ready_needing rows n) r rs there
 
-    by_row : (o : Option ChangeRow) → row_of rows r.change ≡ o → IsSome o → needing_by rows n (pair_of_need n r.change) ≡ Some r
+    by_row : (o : Option ChangeRow) → change_row_in rows r.change ≡ o → IsSome o → needing_by rows n (pair_of_need n r.change) ≡ Some r
     by_row None e some = absurd (false≢true some)
     by_row (Some k) e some =
         let number : k.change.number ≡ r.change = found_has number_of_change r.change k rows (sym e) in

@@ -7,7 +7,7 @@ use Rattle.gate_types.specs.declared.records.Item.{Item}
 use Rattle.gate_types.specs.declared.records.Ready.{Ready}
 use Rattle.gate_types.specs.declared.rows.ChangeRow.{ChangeRow}
 use Rattle.gate_memory.specs.Builds.{is_live_of}
-use Rattle.gate_book_trait.specs.RowReads.{AreReady, row_of, ready_needing_in}
+use Rattle.gate_book_trait.specs.RowReads.{AreReady, change_row_in, ready_needing_in}
 use Rattle.gate_memory.specs.declared.pairs.Pair.{Pair}
 
 -- a change as a ready one, if it is ready and needs another
@@ -19,7 +19,7 @@ if_needing n r =
 
 -- so the change that a pair names second
 abbrev pub needing_by : List ChangeRow → ℕ → Pair → Option Ready
-needing_by rows n p = option_and_then (if_needing n) (row_of rows p.second)
+needing_by rows n p = option_and_then (if_needing n) (change_row_in rows p.second)
 
 -- a list is those that need a change of whatever ready list the rows tell
 abbrev pub IsWhatRowsTellOf : List ChangeRow → ℕ → List Ready → Type 0

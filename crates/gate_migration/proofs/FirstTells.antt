@@ -27,7 +27,7 @@ use Rattle.gate_laws.proofs.ItemRows.{items_of_rows}
 use Rattle.gate_table_laws.specs.Held.{queue_names}
 use Rattle.gate_migration.specs.Standing.{is_newly_taken}
 use Rattle.gate_migration.specs.Migrates.{CanMigrate, TellsQueue, TellsState, pair_of_item, pair_of_row, puts}
-use Rattle.gate_migration.specs.Upgrade.{CanUpgrade, tables_before, without_plans}
+use Rattle.gate_migration.specs.Upgrade.{CanUpgrade, tables_before, stored_without_plans}
 use Rattle.gate_migration.proofs.MigrateLemmas.{first_plans, puts_known}
 use Rattle.gate_table_laws.proofs.told.Items.{names_placed}
 use Rattle.gate_table_laws.proofs.told.Names.{count_names, named_once}
@@ -50,7 +50,7 @@ queue_found c s (p ∷ ps) differ q m = elim m [
     both p ps differ = and_parts _ _ differ
 
 module _ (c : Settings) (x : Content) (b : Stored) (sound : are_sound c ≡ true) (set : map (λ (q : Queue). q.name) x.state.queues ≡ queue_names c)
-    (told : Matches (without_plans b) (tables_before c x)) where
+    (told : Matches (stored_without_plans b) (tables_before c x)) where
   differ : are_distinct (map (λ (q : Queue). q.name) x.state.queues) ≡ true
   differ = subst (λ names. are_distinct names ≡ true) (sym set) (names_differ c sound)
 

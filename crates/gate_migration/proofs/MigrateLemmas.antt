@@ -15,7 +15,7 @@ use Rattle.gate_schema.specs.Rows.{Stored}
 use Rattle.gate_rows.specs.Matches.{StandsFor, Matches}
 use Rattle.gate_file_changes.specs.Applies.{are_known}
 use Rattle.gate_migration.specs.Migrates.{puts}
-use Rattle.gate_migration.specs.Upgrade.{HasUpgraded, tables_before, without_plans}
+use Rattle.gate_migration.specs.Upgrade.{HasUpgraded, tables_before, stored_without_plans}
 use Rattle.gate_file_changes.proofs.ApplyLemmas.{edits_keep_settings}
 
 -- they are of no queue
@@ -44,8 +44,8 @@ first_plans c x = flat_map (plans_of_queue c x.state) x.state.queues
 pub stands_for_migrated : (db : Trees) (c : Settings) (x : Content) (b : Stored) → b.settings ≡ settings_text c
     → HasUpgraded db b (puts (first_plans c x)) (tables_before c x) → StandsFor db c (migrated_content c x)
 stands_for_migrated db c x b settings h = record {
-  stored = after_edits (puts (first_plans c x)) (without_plans b);
+  stored = after_edits (puts (first_plans c x)) (stored_without_plans b);
   stands = h.stands;
-  settings = edits_keep_settings (puts (first_plans c x)) (without_plans b) ∙ settings;
-  matches = subst (Matches (after_edits (puts (first_plans c x)) (without_plans b))) (plans_fold (tables_before c x) (first_plans c x)) h.matches;
+  settings = edits_keep_settings (puts (first_plans c x)) (stored_without_plans b) ∙ settings;
+  matches = subst (Matches (after_edits (puts (first_plans c x)) (stored_without_plans b))) (plans_fold (tables_before c x) (first_plans c x)) h.matches;
 }

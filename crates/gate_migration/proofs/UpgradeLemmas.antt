@@ -30,7 +30,7 @@ use Rattle.gate_types.specs.Tables.{Tables}
 use Rattle.gate_types.specs.declared.edits.Edit.{Edit}
 use Rattle.gate_schema.specs.Rows as rows
 use Rattle.gate_schema.specs.Rows.{IsFixed, IsKeyed, IsListed, Stored, first_version, schema_version}
-use Rattle.gate_schema.specs.Schema.{gate_schema, item_fast_text, item_job_text, meta_at, schema_with}
+use Rattle.gate_schema.specs.Schema.{gate_schema, item_fast_table_text, item_job_table_text, meta_table_at, schema_with}
 use Rattle.gate_schema.proofs.ChangeLemmas.{changed, listed_changed, numbered_changed, updated_rows}
 use Rattle.gate_schema.proofs.QueryLemmas.{over_table, passes, shows_few}
 use Rattle.gate_schema.proofs.RowLemmas.{behind, few_found, int_cast, out, renewed, written_update}
@@ -42,7 +42,7 @@ use Rattle.gate_schema.proofs.WriteLemmas.{updates}
 use Rattle.gate_queue_queries.specs.First.{first_schema}
 use Rattle.gate_file_changes.specs.Making.{IsFilled}
 use Rattle.gate_file_meta.specs.Reading.{meta_rows}
-use Rattle.gate_migration.specs.Upgrade.{CanUpgrade, HasJobTable, HoldsRows, IsFirst, IsWidened, without_plans}
+use Rattle.gate_migration.specs.Upgrade.{CanUpgrade, HasJobTable, HoldsRows, IsFirst, IsWidened, stored_without_plans}
 use Rattle.gate_file_changes.proofs.AdoptTables.{meta_pairs, pair_columns}
 use Rattle.gate_file_changes.proofs.BareLemmas.{plain_parts}
 use Rattle.gate_file_changes.proofs.FillLemmas.{none_keyed, none_listed, sound_lists}
@@ -57,21 +57,21 @@ rows_stay version old new b same h = record {
   meta = subst (IsFixed (meta_rows version b.settings)) (sym same.0) h.meta;
   counter = subst (IsFixed (rows.counter_columns b.counters)) (sym same.1.0) h.counter;
   queue = subst (λ rs. IsListed rows.queue_columns rs b.queues) (sym same.1.1.0) h.queue;
-  change = subst (λ rs. IsKeyed rows.change_key rows.change_row rs b.changes) (sym same.1.1.1.0) h.change;
+  change = subst (λ rs. IsKeyed rows.change_key rows.change_table_row rs b.changes) (sym same.1.1.1.0) h.change;
   need = subst (λ rs. IsListed rows.need_columns rs b.needs) (sym same.1.1.1.1.0) h.need;
-  item = subst (λ rs. IsKeyed rows.item_key rows.item_row rs b.items) (sym same.1.1.1.1.1.0) h.item;
-  build = subst (λ rs. IsKeyed rows.build_key rows.build_row rs b.builds) (sym same.1.1.1.1.1.1.0) h.build;
+  item = subst (λ rs. IsKeyed rows.item_key rows.item_table_row rs b.items) (sym same.1.1.1.1.1.0) h.item;
+  build = subst (λ rs. IsKeyed rows.build_key rows.build_table_row rs b.builds) (sym same.1.1.1.1.1.1.0) h.build;
   landing = subst (λ rs. IsListed rows.landing_columns rs b.landings) (sym same.1.1.1.1.1.1.1.0) h.landing;
   report = subst (λ rs. IsListed rows.report_columns rs b.reports) (sym same.1.1.1.1.1.1.1.1.0) h.report;
   delivery = subst (λ rs. IsListed rows.kept_columns rs b.kept) (sym same.1.1.1.1.1.1.1.1.1.0) h.delivery;
 }
 
 -- the table of jobs is made
-pub makes_job_table : (b : Stored) (old new : State) (count : ℕ) → IsFirst b old → ExecutesInside 0 item_job_text [] old new (Ok count) → HasJobTable b new
+pub makes_job_table : (b : Stored) (old new : State) (count : ℕ) → IsFirst b old → ExecutesInside 0 item_job_table_text [] old new (Ok count) → HasJobTable b new
 makes_job_table b old new count first h =
     let m = item_job_makes in
-    let p = plain_parts (understood first_schema item_job_text) CreateTable item_job_text m.plain in
-    let made = makes_table item_job_text first_schema m.table p.0 p.1 p.2 m.defined (ap lacks_sequence m.is ∙ m.uncounted) old new count first.schema_is h.0 in
+    let p = plain_parts (understood first_schema item_job_table_text) CreateTable item_job_table_text m.plain in
+    let made = makes_table item_job_table_text first_schema m.table p.0 p.1 p.2 m.defined (ap lacks_sequence m.is ∙ m.uncounted) old new count first.schema_is h.0 in
     record {
       schema_is = made.schema_is ∙ m.is;
       rows = rows_stay first_version old.now.trees new.now.trees b made.others first.rows;
@@ -80,11 +80,11 @@ makes_job_table b old new count first h =
     }
 
 -- the table of the items that fail fast is made
-pub makes_fast_table : (b : Stored) (old new : State) (count : ℕ) → HasJobTable b old → ExecutesInside 0 item_fast_text [] old new (Ok count) → IsWidened b new
+pub makes_fast_table : (b : Stored) (old new : State) (count : ℕ) → HasJobTable b old → ExecutesInside 0 item_fast_table_text [] old new (Ok count) → IsWidened b new
 makes_fast_table b old new count had h =
     let m = item_fast_makes in
-    let p = plain_parts (understood (schema_with 11 17) item_fast_text) CreateTable item_fast_text m.plain in
-    let made = makes_table item_fast_text (schema_with 11 17) m.table p.0 p.1 p.2 m.defined (ap lacks_sequence m.is ∙ m.uncounted) old new count had.schema_is h.0 in
+    let p = plain_parts (understood (schema_with 11 17) item_fast_table_text) CreateTable item_fast_table_text m.plain in
+    let made = makes_table item_fast_table_text (schema_with 11 17) m.table p.0 p.1 p.2 m.defined (ap lacks_sequence m.is ∙ m.uncounted) old new count had.schema_is h.0 in
     let o = made.others in
     record {
       schema_is = made.schema_is ∙ m.is;
@@ -115,24 +115,24 @@ unfolding understood everything
 set_version_is = (refl, (refl, refl))
 
 -- the version is set: a file of schema 2, with no plan
-pub sets_version : (b : Stored) (old new : State) (count : ℕ) → IsWidened b old → ExecutesInside 0 set_version_sql [] old new (Ok count) → IsFilled (without_plans b) new
+pub sets_version : (b : Stored) (old new : State) (count : ℕ) → IsWidened b old → ExecutesInside 0 set_version_sql [] old new (Ok count) → IsFilled (stored_without_plans b) new
 sets_version b old new count had h =
     let program : Program = record { lets = []; body = set_version_query } in
     let w = runs_as set_version_sql [] old new gate_schema had.schema_is (Update 0 program) set_version_is.0 set_version_is.1 count h.0 in
-    let e = updates gate_schema (λ _ _ _. refl) old new had.schema_is 0 (meta_at 0) refl (statement_of set_version_sql (understood gate_schema set_version_sql)) [] count program w in
+    let e = updates gate_schema (λ _ _ _. refl) old new had.schema_is 0 (meta_table_at 0) refl (statement_of set_version_sql (understood gate_schema set_version_sql)) [] count program w in
     let db = overlay old.now.trees [] in
     let test = passes of_version [] in
-    let new_row = renewed (meta_at 0) set_version_terms [] old.now.trees in
+    let new_row = renewed (meta_table_at 0) set_version_terms [] old.now.trees in
     let p : (List ℕ × List ℕ) → Bool = λ x. bytes_eq x.0 (codes "schema") in
     let same : (v : Row) (x : List ℕ × List ℕ) → drop 1 v ≡ pair_columns x → test v ≡ bytes_eq x.0 (codes "schema") = λ v x is. behind test v _ _ _ (λ y. rw equal_texts (and_true (bytes_eq x.0 (codes "schema")))) is in
     let made : (v : Row) (x : List ℕ × List ℕ) → drop 1 v ≡ pair_columns x → drop 1 (new_row v) ≡ pair_columns (x.0, schema_version) = λ v x is. made_version x old.now.trees v is in
     let few : length (filter (λ (x : List ℕ × List ℕ). bytes_eq x.0 (codes "schema")) (meta_pairs first_version b.settings)) ≤ 1 = omega arith in
     let short : length (filter test (old.now.trees 0)) ≤ 1 =
     subst (λ n. n ≤ 1) (sym (few_found pair_columns test (λ x. bytes_eq x.0 (codes "schema")) same (old.now.trees 0) (meta_pairs first_version b.settings) had.rows.meta.columns_are)) few in
-    let rs : e.0 ≡ map (out (meta_at 0) set_version_terms [] old.now.trees) (filter test (old.now.trees 0)) =
+    let rs : e.0 ≡ map (out (meta_table_at 0) set_version_terms [] old.now.trees) (filter test (old.now.trees 0)) =
     shows_few 0 of_version (col 1 0 ∷ set_version_terms) [] no_limit db [] e.0 short (e.1.answer Null) in
     let left : new.now.trees 0 ≡ changed test new_row (old.now.trees 0) =
-    e.2.applies.rows ∙ written_update (meta_at 0) set_version_terms [] old.now.trees e.0 _ rs short
+    e.2.applies.rows ∙ written_update (meta_table_at 0) set_version_terms [] old.now.trees e.0 _ rs short
     ∙ updated_rows test new_row (old.now.trees 0) had.rows.meta.numbered (λ r its. int_cast (rowid r) its) short in
     let t = e.2.applies.tables in
     let no : (n : ℕ) → eqb n 0 ≡ false → n ≢ 0 = λ n far. apart n 0 far in
@@ -146,10 +146,10 @@ sets_version b old new count had h =
         });
         counter = subst (IsFixed (rows.counter_columns b.counters)) (sym (t.1.0 (no 2 refl))) had.rows.counter;
         queue = subst (λ rs. IsListed rows.queue_columns rs b.queues) (sym (t.1.1.0 (no 4 refl))) had.rows.queue;
-        change = subst (λ rs. IsKeyed rows.change_key rows.change_row rs b.changes) (sym (t.1.1.1.0 (no 7 refl))) had.rows.change;
+        change = subst (λ rs. IsKeyed rows.change_key rows.change_table_row rs b.changes) (sym (t.1.1.1.0 (no 7 refl))) had.rows.change;
         need = subst (λ rs. IsListed rows.need_columns rs b.needs) (sym (t.1.1.1.1.0 (no 9 refl))) had.rows.need;
-        item = subst (λ rs. IsKeyed rows.item_key rows.item_row rs b.items) (sym (t.1.1.1.1.1.0 (no 11 refl))) had.rows.item;
-        build = subst (λ rs. IsKeyed rows.build_key rows.build_row rs b.builds) (sym (t.1.1.1.1.1.1.0 (no 13 refl))) had.rows.build;
+        item = subst (λ rs. IsKeyed rows.item_key rows.item_table_row rs b.items) (sym (t.1.1.1.1.1.0 (no 11 refl))) had.rows.item;
+        build = subst (λ rs. IsKeyed rows.build_key rows.build_table_row rs b.builds) (sym (t.1.1.1.1.1.1.0 (no 13 refl))) had.rows.build;
         landing = subst (λ rs. IsListed rows.landing_columns rs b.landings) (sym (t.1.1.1.1.1.1.1.0 (no 14 refl))) had.rows.landing;
         report = subst (λ rs. IsListed rows.report_columns rs b.reports) (sym (t.1.1.1.1.1.1.1.1.0 (no 18 refl))) had.rows.report;
         delivery = subst (λ rs. IsListed rows.kept_columns rs b.kept) (sym (t.1.1.1.1.1.1.1.1.1.0 (no 21 refl))) had.rows.delivery;
@@ -159,9 +159,9 @@ sets_version b old new count had h =
     }
   where
     made_version : (x : List ℕ × List ℕ) (db : Trees) (v : Row) → drop 1 v ≡ pair_columns x
-        → drop 1 (renewed (meta_at 0) set_version_terms [] db v) ≡ pair_columns (x.0, schema_version)
+        → drop 1 (renewed (meta_table_at 0) set_version_terms [] db v) ≡ pair_columns (x.0, schema_version)
     made_version x db [] is = absurd cc
-    made_version x db (y ∷ rest) is = ap (λ l. drop 1 (renewed (meta_at 0) set_version_terms [] db (y ∷ l))) is
+    made_version x db (y ∷ rest) is = ap (λ l. drop 1 (renewed (meta_table_at 0) set_version_terms [] db (y ∷ l))) is
 
 -- ---- a transaction that isn't committed
 

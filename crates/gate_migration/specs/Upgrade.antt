@@ -24,10 +24,10 @@ pub record HoldsRows (version : List ℕ) (db : Trees) (b : Stored) : Type 0 whe
   pub meta : IsFixed (meta_rows version b.settings) (db 0)
   pub counter : IsFixed (rows.counter_columns b.counters) (db 2)
   pub queue : IsListed rows.queue_columns (db 4) b.queues
-  pub change : IsKeyed rows.change_key rows.change_row (db 7) b.changes
+  pub change : IsKeyed rows.change_key rows.change_table_row (db 7) b.changes
   pub need : IsListed rows.need_columns (db 9) b.needs
-  pub item : IsKeyed rows.item_key rows.item_row (db 11) b.items
-  pub build : IsKeyed rows.build_key rows.build_row (db 13) b.builds
+  pub item : IsKeyed rows.item_key rows.item_table_row (db 11) b.items
+  pub build : IsKeyed rows.build_key rows.build_table_row (db 13) b.builds
   pub landing : IsListed rows.landing_columns (db 14) b.landings
   pub report : IsListed rows.report_columns (db 18) b.reports
   pub delivery : IsListed rows.kept_columns (db 21) b.kept
@@ -38,8 +38,8 @@ pub record StandsFirst (db : Trees) (b : Stored) : Type 0 where
   pub rows : HoldsRows first_version db b
 
 -- the same without plans
-abbrev pub without_plans : Stored → Stored
-without_plans b = record b { jobs = []; fast = [] }
+abbrev pub stored_without_plans : Stored → Stored
+stored_without_plans b = record b { jobs = []; fast = [] }
 
 -- what a file of schema 1 tells of a content: the tables of what it becomes, but for plans. So the columns of an item
 -- are worked out from the jobs of its change's project
@@ -51,7 +51,7 @@ pub record StandsForFirst (db : Trees) (c : Settings) (x : Content) : Type 0 whe
   pub stored : Stored
   pub stands : StandsFirst db stored
   pub settings : stored.settings ≡ settings_text c
-  pub matches : Matches (without_plans stored) (tables_before c x)
+  pub matches : Matches (stored_without_plans stored) (tables_before c x)
 
 -- ---- within the transaction
 
@@ -60,12 +60,12 @@ pub record CanPlan (b : Stored) (edits : List Edit) (t : Tables) : Type 0 where
   pub named : AreNamed b
   pub known : are_known (names_in b) edits ≡ true
   pub planned : HaveJobs t.plans
-  pub matches : Matches (without_plans b) t
+  pub matches : Matches (stored_without_plans b) t
 
 -- tables of schema 2 hold and match what the edits leave
 pub record HasUpgraded (db : Trees) (b : Stored) (edits : List Edit) (t : Tables) : Type 0 where
-  pub stands : Stands db (after_edits edits (without_plans b))
-  pub matches : Matches (after_edits edits (without_plans b)) (fold_all t edits)
+  pub stands : Stands db (after_edits edits (stored_without_plans b))
+  pub matches : Matches (after_edits edits (stored_without_plans b)) (fold_all t edits)
 
 -- outside one: tables of schema 1 hold this
 pub record CanUpgrade (s : State) (b : Stored) (edits : List Edit) (t : Tables) : Type 0 where

@@ -9,7 +9,7 @@ ghost use Rattle.gate_schema.specs.Schema.{gate_schema};
 ghost use Rattle.gate_found_rows.specs.Finds.{Stays};
 ghost use Rattle.gate_file_changes.specs.Making.{IsFilled, IsInside, IsSettled, KeepsInside, Turns};
 ghost use Rattle.gate_migration.specs.Upgrade.{CanPlan, CanUpgrade, HasJobTable, HasUpgraded, IsFirst, IsWidened};
-ghost use Rattle.gate_migration.specs.Upgrade.{without_plans};
+ghost use Rattle.gate_migration.specs.Upgrade.{stored_without_plans};
 
 use gate_file_changes::apply_all;
 use gate_found_rows::read::check_open;
@@ -53,7 +53,7 @@ fn make_fast_table<S: Alter>(tx: &mut Transaction<'_, S>) -> Result<(), Error>
 fn set_version<S: Alter>(tx: &mut Transaction<'_, S>) -> Result<(), Error>
     ensures same_reference { tx.new.conn.ghost_name ≡ tx.old.conn.ghost_name }
     ensures made { (b : _) → Turns (state S.Store tx.old.conn.now) (state S.Store tx.new.conn.now) result
-        (IsWidened b) (IsFilled (without_plans b)) }
+        (IsWidened b) (IsFilled (stored_without_plans b)) }
     ensures inside { Turns (state S.Store tx.old.conn.now) (state S.Store tx.new.conn.now) result IsInside IsInside }
     ensures kept { KeepsInside (state S.Store tx.old.conn.now) (state S.Store tx.new.conn.now) }
     ensures crash { LeavesNothing (state S.Store tx.old.conn.now) (state S.Store tx.new.conn.now) }
@@ -66,7 +66,7 @@ fn set_version<S: Alter>(tx: &mut Transaction<'_, S>) -> Result<(), Error>
 pub(crate) fn widen<S: Alter>(tx: &mut Transaction<'_, S>) -> Result<(), Error>
     ensures same_reference { tx.new.conn.ghost_name ≡ tx.old.conn.ghost_name }
     ensures made { (b : _) → Turns (state S.Store tx.old.conn.now) (state S.Store tx.new.conn.now) result
-        (IsFirst b) (IsFilled (without_plans b)) }
+        (IsFirst b) (IsFilled (stored_without_plans b)) }
     ensures inside { Turns (state S.Store tx.old.conn.now) (state S.Store tx.new.conn.now) result IsInside IsInside }
     ensures kept { KeepsInside (state S.Store tx.old.conn.now) (state S.Store tx.new.conn.now) }
     ensures crash { LeavesNothing (state S.Store tx.old.conn.now) (state S.Store tx.new.conn.now) }

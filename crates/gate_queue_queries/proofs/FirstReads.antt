@@ -33,7 +33,8 @@ use Rattle.gate_types.specs.declared.records.Landing.{Landing}
 use Rattle.gate_types.specs.declared.rows.ChangeRow.{ChangeRow}
 use Rattle.gate_types.specs.declared.rows.LandingRow.{LandingRow}
 use Rattle.gate_rows.specs.Matches.{items_of, landings_of}
-use Rattle.gate_schema.specs.Rows.{ItemRow, QueueLanding, Stored, change_key, change_row, item_key, item_row}
+use Rattle.gate_schema.specs.Rows.{ItemRow, QueueLanding, Stored, change_key, change_table_row, item_key}
+use Rattle.gate_schema.specs.Rows.{item_table_row}
 use Rattle.gate_schema.specs.Rows.{landing_columns}
 use Rattle.gate_schema.proofs.QueryLemmas.{kept_is, over_table, passes}
 use Rattle.gate_schema.proofs.Statements.{key_is, no_limit}
@@ -80,7 +81,7 @@ pub item_pairs_found : (s : State) (b : Stored) (name : List ℕ) (rows : List R
     → rows ≡ map (λ (i : Item). pair_shown i.serial i.change) (items_of name b.items)
 item_pairs_found s b name rows shown finds =
     let params = Words name ∷ [] in
-    finds_rising item_key item_row (λ (r : ItemRow). pair_shown r.item.serial r.item.change) 11 (key_is 2 ∷ []) (col 1 0 ∷ col 1 3 ∷ []) no_limit params (λ (r : ItemRow). same_name r.queue name)
+    finds_rising item_key item_table_row (λ (r : ItemRow). pair_shown r.item.serial r.item.change) 11 (key_is 2 ∷ []) (col 1 0 ∷ col 1 3 ∷ []) no_limit params (λ (r : ItemRow). same_name r.queue name)
     (λ r. rw (equal_texts r.queue name, and_true (same_name r.queue name))) (λ r. refl) (λ r. refl) (overlay s.now.trees []) b.items rows shown.item
     (answers s item_pairs_sql item_pairs_query pair_names params rows item_pairs_asks shown.schema_is finds)
     ∙ sym (map-map (λ (i : Item). pair_shown i.serial i.change) (λ (r : ItemRow). r.item) _)
@@ -159,7 +160,7 @@ project_found : (s : State) (b : Stored) (n : ℕ) (rows : List Row) → ShowsFi
     → rows ≡ map (λ (r : ChangeRow). name_shown r.change.project) (filter (λ (r : ChangeRow). eqb (change_key r) n) b.changes)
 project_found s b n rows shown finds =
     let params = Int (pos n) ∷ [] in
-    finds_few change_key change_row (λ (r : ChangeRow). name_shown r.change.project) 7 (key_is 0 ∷ []) (col 1 2 ∷ []) no_limit params (λ (r : ChangeRow). eqb (change_key r) n)
+    finds_few change_key change_table_row (λ (r : ChangeRow). name_shown r.change.project) 7 (key_is 0 ∷ []) (col 1 2 ∷ []) no_limit params (λ (r : ChangeRow). eqb (change_key r) n)
     (λ r. rw equal_numbers (and_true (eqb (change_key r) n))) (λ r. refl) (overlay s.now.trees []) b.changes rows shown.change (one_at change_key n b.changes shown.change.in_order)
     (answers s project_sql project_query (codes "project" ∷ []) params rows project_asks shown.schema_is finds)
 
@@ -181,7 +182,7 @@ first_still old new b stays shows up =
     let is = stays.now_is up in
     record {
       schema_is = ap (λ d. d.schema) is ∙ was.schema_is;
-      change = subst (λ d. Rattle.gate_schema.specs.Rows.IsKeyed change_key change_row (d.trees 7) b.changes) (sym is) was.change;
-      item = subst (λ d. Rattle.gate_schema.specs.Rows.IsKeyed item_key item_row (d.trees 11) b.items) (sym is) was.item;
+      change = subst (λ d. Rattle.gate_schema.specs.Rows.IsKeyed change_key change_table_row (d.trees 7) b.changes) (sym is) was.change;
+      item = subst (λ d. Rattle.gate_schema.specs.Rows.IsKeyed item_key item_table_row (d.trees 11) b.items) (sym is) was.item;
       landing = subst (λ d. Rattle.gate_schema.specs.Rows.IsListed landing_columns (d.trees 14) b.landings) (sym is) was.landing;
     }

@@ -20,7 +20,7 @@ use Rattle.gate_types.specs.Names.{same_name}
 use Rattle.gate_types.specs.declared.rows.LandingRow.{LandingRow}
 use Rattle.gate_types.specs.declared.rows.ReportRow.{ReportRow}
 use Rattle.gate_rows.specs.Matches.{items_of, landings_of, reports_of}
-use Rattle.gate_schema.specs.Rows.{QueueLanding, QueueReport, QueueRow, Stored, item_row, landing_columns}
+use Rattle.gate_schema.specs.Rows.{QueueLanding, QueueReport, QueueRow, Stored, item_table_row, landing_columns}
 use Rattle.gate_schema.specs.Rows.{queue_columns, report_columns}
 use Rattle.gate_schema.proofs.QueryLemmas.{passes}
 use Rattle.gate_schema.proofs.Statements.{key_is, no_limit}
@@ -68,9 +68,9 @@ pub count_found : (s : State) (b : Stored) (name : List ℕ) (rows : List Row) �
     → rows ≡ counted (length (items_of name b.items)) ∷ []
 count_found s b name rows shows finds =
     let params = Words name ∷ [] in
-    let found : filter (passes (key_is 2 ∷ []) (Words name ∷ [])) (overlay s.now.trees [] 11) ≡ map item_row (filter (λ i. same_name i.queue name) b.items) =
-    ap (filter (passes (key_is 2 ∷ []) (Words name ∷ []))) shows.stands.item.rows_are ∙ filter-map _ item_row b.items
-    ∙ ap (map item_row) (filter_same _ _ (λ i. rw equal_texts (and_true (same_name i.queue name))) b.items) in
+    let found : filter (passes (key_is 2 ∷ []) (Words name ∷ [])) (overlay s.now.trees [] 11) ≡ map item_table_row (filter (λ i. same_name i.queue name) b.items) =
+    ap (filter (passes (key_is 2 ∷ []) (Words name ∷ []))) shows.stands.item.rows_are ∙ filter-map _ item_table_row b.items
+    ∙ ap (map item_table_row) (filter_same _ _ (λ i. rw equal_texts (and_true (same_name i.queue name))) b.items) in
     let many : length (filter (passes (key_is 2 ∷ []) (Words name ∷ [])) (overlay s.now.trees [] 11)) ≡ length (items_of name b.items) =
     ap length found ∙ simp length-map in
     counts 11 (key_is 2 ∷ []) (overlay s.now.trees []) params rows (answers s count_sql count_query (codes "count(*)" ∷ []) params rows count_asks shows.schema_is finds)

@@ -8,7 +8,7 @@ use Rattle.gate_types.specs.Tables.{numbered_landings}
 use Rattle.gate_types.specs.declared.records.Landing.{Landing}
 use Rattle.gate_types.specs.declared.rows.ChangeRow.{ChangeRow}
 use Rattle.gate_rows.specs.Matches.{landings_of}
-use Rattle.gate_schema.specs.Rows.{IsKeyed, IsListed, Stored, change_key, change_row, item_key, item_row}
+use Rattle.gate_schema.specs.Rows.{IsKeyed, IsListed, Stored, change_key, change_table_row, item_key, item_table_row}
 use Rattle.gate_schema.specs.Rows.{landing_columns}
 use Rattle.gate_schema.specs.Schema.{schema_with}
 
@@ -19,8 +19,8 @@ first_schema = schema_with 10 16
 -- the changes, the items and the landings of a file of schema 1
 pub record ShowsFirst (s : State) (b : Stored) : Type 0 where
   pub schema_is : s.now.schema ≡ first_schema
-  pub change : IsKeyed change_key change_row (s.now.trees 7) b.changes
-  pub item : IsKeyed item_key item_row (s.now.trees 11) b.items
+  pub change : IsKeyed change_key change_table_row (s.now.trees 7) b.changes
+  pub item : IsKeyed item_key item_table_row (s.now.trees 11) b.items
   pub landing : IsListed landing_columns (s.now.trees 14) b.landings
 
 -- while the connection answers at all, it shows these

@@ -4,7 +4,7 @@ ghost use Rattle.std.specs.List.{AllPass};
 ghost use Rattle.sqlite.specs.Held.{state};
 ghost use Rattle.gate_book_trait.specs.Reads.{Answers};
 ghost use Rattle.gate_rows.specs.Matches.{items_of};
-ghost use Rattle.gate_found_rows.specs.Asked.{landing_before, last_landing, last_report, window_of};
+ghost use Rattle.gate_found_rows.specs.Asked.{landing_before, last_landing, last_report, stored_window_of};
 ghost use Rattle.gate_found_rows.specs.Reads.{IsOnlyRead, Opened, Tells};
 ghost use Rattle.gate_found_rows.specs.Shown.{number_shown};
 ghost use Rattle.gate_types.specs.Limits.{most_window};
@@ -46,7 +46,7 @@ fn first_window(rows: &[Row]) -> Result<Option<u32>, BookFault>
 ///
 /// `NoMemory` where memory is refused, `Store` where the query fails, `Damaged` where the window is over 1,000.
 pub fn window<S: Alter>(conn: &mut Connection<S>, queue: &Name) -> Result<Option<u32>, BookFault>
-    ensures found { Tells (state S.Store conn.old) (state S.Store conn.new) result (λ b. window_of b queue.now) }
+    ensures found { Tells (state S.Store conn.old) (state S.Store conn.new) result (λ b. stored_window_of b queue.now) }
     ensures opened { Opened (state S.Store conn.old) (state S.Store conn.new) result }
     ensures only_reads { IsOnlyRead (state S.Store conn.old) (state S.Store conn.new) }
 {

@@ -22,9 +22,9 @@ use Rattle.sqlite_trees.specs.Tree.{rowid}
 use Rattle.gate_types.specs.Names.{same_name}
 use Rattle.gate_types.specs.declared.config.Job.{Job}
 use Rattle.gate_schema.specs.Rows.{AreNamed, Changes, IsReady, ItemRow, JobRow, QueueLanding, QueueReport, Stands}
-use Rattle.gate_schema.specs.Rows.{Stored, item_key, item_row, job_columns, landing_columns, report_columns}
+use Rattle.gate_schema.specs.Rows.{Stored, item_key, item_table_row, job_columns, landing_columns, report_columns}
 use Rattle.gate_schema.specs.Edits.{add_jobs, job_rows}
-use Rattle.gate_schema.specs.Schema.{gate_schema, item_at}
+use Rattle.gate_schema.specs.Schema.{gate_schema, item_table_at}
 use Rattle.gate_schema.proofs.ItemTable.{add_item_is, add_item_sql, add_item_terms, is_of, item_params}
 use Rattle.gate_schema.proofs.ChangeLemmas.{none_has, one_keyed}
 use Rattle.gate_schema.proofs.JobTable.{add_job_is, add_job_sql, add_job_terms, adds_job}
@@ -43,13 +43,13 @@ pub serial_free : (x : ItemRow) (old new : State) (count : ℕ) → IsReady old 
 serial_free x old new count ready h b named stands =
     let params = item_params x in
     let w = runs_as add_item_sql params old new gate_schema ready.schema_is (Insert 5 (Values add_item_terms 7)) add_item_is.0 add_item_is.1 count h.0 in
-    let e = inserts gate_schema (λ _ _ _. refl) old new ready.schema_is 5 (item_at 11) refl (statement_of add_item_sql (understood gate_schema add_item_sql)) params count refl (Values add_item_terms 7) w in
-    let rows : e.0 ≡ item_row x ∷ [] = e.1.1 in
-    let stored : cast_row (item_at 11) (item_row x) ≡ item_row x = rw (cast_int, cast_null, cast_int, cast_int, cast_or_null, cast_int) in
-    let one : are_fresh (old.now.trees 11) (with_rowid Chosen (old.now.trees 11) (cast_row (item_at 11) (item_row x)) ∷ []) ≡ true = rw rows at e.2.applies.fresh in
-    let fresh : are_fresh (old.now.trees 11) (item_row x ∷ []) ≡ true =
+    let e = inserts gate_schema (λ _ _ _. refl) old new ready.schema_is 5 (item_table_at 11) refl (statement_of add_item_sql (understood gate_schema add_item_sql)) params count refl (Values add_item_terms 7) w in
+    let rows : e.0 ≡ item_table_row x ∷ [] = e.1.1 in
+    let stored : cast_row (item_table_at 11) (item_table_row x) ≡ item_table_row x = rw (cast_int, cast_null, cast_int, cast_int, cast_or_null, cast_int) in
+    let one : are_fresh (old.now.trees 11) (with_rowid Chosen (old.now.trees 11) (cast_row (item_table_at 11) (item_table_row x)) ∷ []) ≡ true = rw rows at e.2.applies.fresh in
+    let fresh : are_fresh (old.now.trees 11) (item_table_row x ∷ []) ≡ true =
     subst (λ r. are_fresh (old.now.trees 11) (with_rowid Chosen (old.now.trees 11) r ∷ []) ≡ true) stored one in
-    none_has item_key item_row (λ y. refl) x.item.serial b.items
+    none_has item_key item_table_row (λ y. refl) x.item.serial b.items
     (subst (λ rs. list_any (λ (r : Row). is_eq (value_cmp (rowid r) (Int (pos x.item.serial)))) rs ≡ false) stands.item.rows_are (not-true _ (and_parts _ _ fresh).0))
 
 -- where no item of a serial is left once that of a queue is taken out, no other queue has one
@@ -74,7 +74,7 @@ pub alone_found : (x : ItemRow) (rows : List ItemRow) → IsKeyedBy (λ y. pos (
     → AllByRecursion (λ (y : ItemRow). eqb y.item.serial x.item.serial ≡ true → same_name y.queue x.queue ≡ true) rows
 alone_found x rows up count is found =
     let mine : ItemRow → Bool = λ y. eqb (item_key y) (item_key x) in
-    let few : length (filter mine rows) ≤ 1 = one_keyed item_key item_row (λ y. refl) (item_key x) mine (λ y e. e) rows up in
+    let few : length (filter mine rows) ≤ 1 = one_keyed item_key item_table_row (λ y. refl) (item_key x) mine (λ y e. e) rows up in
     let some : 0 < length (filter (is_of x) (filter mine rows)) = rw (filter-filter (is_of x) mine (λ y e. (and_parts _ _ e).0) rows, sym is) (grind (arith, nat_tests)) in
     all_kept (λ y. same_name y.queue x.queue ≡ true) mine rows (go (filter mine rows) few some)
   where

@@ -24,7 +24,7 @@ use Rattle.sqlite_value.specs.Keys.{first_key, plain}
 use Rattle.gate_types.specs.Names.{same_name}
 use Rattle.gate_schema.specs.Rows.{AreNamed, IsListed, IsNumbered, JobRow, QueueLanding, QueueReport, QueueRow}
 use Rattle.gate_schema.specs.Rows.{Stands, Stored, job_columns, landing_columns, queue_columns, report_columns}
-use Rattle.gate_schema.specs.Schema.{gate_schema, item_job_at, landing_at, queue_at, report_at}
+use Rattle.gate_schema.specs.Schema.{gate_schema, item_job_table_at, landing_table_at, queue_table_at, report_table_at}
 use Rattle.gate_schema.proofs.DeleteLemmas.{is_its}
 use Rattle.gate_schema.proofs.RowLemmas.{behind}
 use Rattle.gate_schema.proofs.ValueLemmas.{equal_numbers, equal_texts}
@@ -93,7 +93,7 @@ queues_agree u v p q is its =
 -- no two rows of queues have one key
 queues_clear : (db : Trees) → IsSound gate_schema db → AllByRecursion (λ r. clashes plain (1 ∷ []) (db 4) r ≡ false) (db 4)
 queues_clear db sound =
-    all_weaker _ _ (λ (r : Row) (h : passes Unique gate_schema db (queue_at 4) r ≡ true). not-true _ (and_parts _ _ h).0) (db 4) (sound.obeys.rules Unique).1.1.0
+    all_weaker _ _ (λ (r : Row) (h : passes Unique gate_schema db (queue_table_at 4) r ≡ true). not-true _ (and_parts _ _ h).0) (db 4) (sound.obeys.rules Unique).1.1.0
 
 -- where no queue is like one of a name, none has the name
 none_like : (name : List ℕ) (q : QueueRow) (qs : List QueueRow) → same_name q.name name ≡ true → AllByRecursion (λ p. same_queue p q ≡ false) qs
@@ -158,13 +158,13 @@ module _ {X : Type 0} (name : X → List ℕ) (place : X → ℕ) (rest : X → 
 -- no two rows of landings have one key
 landings_clear : (db : Trees) → IsSound gate_schema db → AllByRecursion (λ r. clashes plain (1 ∷ 2 ∷ []) (db 14) r ≡ false) (db 14)
 landings_clear db sound =
-    all_weaker _ _ (λ (r : Row) (h : passes Unique gate_schema db (landing_at 14) r ≡ true). not-true _ (and_parts _ _ (and_parts _ _ (and_parts _ _ h).1).1).0) (db 14)
+    all_weaker _ _ (λ (r : Row) (h : passes Unique gate_schema db (landing_table_at 14) r ≡ true). not-true _ (and_parts _ _ (and_parts _ _ (and_parts _ _ h).1).1).0) (db 14)
     (sound.obeys.rules Unique).1.1.1.1.1.1.1.0
 
 -- no two rows of reports have one key
 reports_clear : (db : Trees) → IsSound gate_schema db → AllByRecursion (λ r. clashes plain (1 ∷ 2 ∷ []) (db 18) r ≡ false) (db 18)
 reports_clear db sound =
-    all_weaker _ _ (λ (r : Row) (h : passes Unique gate_schema db (report_at 18) r ≡ true). not-true _ (and_parts _ _ (and_parts _ _ h).1).0) (db 18)
+    all_weaker _ _ (λ (r : Row) (h : passes Unique gate_schema db (report_table_at 18) r ≡ true). not-true _ (and_parts _ _ (and_parts _ _ h).1).0) (db 18)
     (sound.obeys.rules Unique).1.1.1.1.1.1.1.1.0
 
 -- no landing stood at the place of one that was added
@@ -195,7 +195,7 @@ jobs_agree u v x y is its =
 -- no two rows of jobs have one key
 jobs_clear : (db : Trees) → IsSound gate_schema db → AllByRecursion (λ r. clashes plain (1 ∷ 2 ∷ []) (db 26) r ≡ false) (db 26)
 jobs_clear db sound =
-    all_weaker _ _ (λ (r : Row) (h : passes Unique gate_schema db (item_job_at 26) r ≡ true). not-true _ (and_parts _ _ h).0) (db 26)
+    all_weaker _ _ (λ (r : Row) (h : passes Unique gate_schema db (item_job_table_at 26) r ≡ true). not-true _ (and_parts _ _ h).0) (db 26)
     (sound.obeys.rules Unique).1.1.1.1.1.1.1.1.1.1.0
 
 -- no job stood at the place of one that was added

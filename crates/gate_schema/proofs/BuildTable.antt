@@ -28,8 +28,8 @@ use Rattle.gate_types.specs.Rows.{with_outcome}
 use Rattle.gate_types.specs.declared.records.Build.{Build}
 use Rattle.gate_types.specs.declared.records.Outcome.{Outcome}
 use Rattle.gate_schema.specs.Edits.{add_build, drop_build, set_outcome, stop_build}
-use Rattle.gate_schema.specs.Rows.{IsReady, Changes, IsKeyed, bit, build_row, build_key}
-use Rattle.gate_schema.specs.Schema.{gate_schema, build_at}
+use Rattle.gate_schema.specs.Rows.{IsReady, Changes, IsKeyed, bit, build_table_row, build_key}
+use Rattle.gate_schema.specs.Schema.{gate_schema, build_table_at}
 use Rattle.gate_schema.specs.AheadText.{ahead_text}
 use Rattle.gate_types.specs.BuildText.{outcome_word}
 use Rattle.gate_schema.proofs.ChangeLemmas.{changed, keyed_put, keyed_numbered, keyed_changed, none_has}
@@ -62,14 +62,14 @@ pub adds_build : (x : Build) (old new : State) (count : ℕ) → IsReady old →
 adds_build x old new count ready h =
     let params = build_params x in
     let w = runs_as add_build_sql params old new gate_schema ready.schema_is (Insert 6 (Values add_build_terms 11)) add_build_is.0 add_build_is.1 count h.0 in
-    let e = inserts gate_schema (λ _ _ _. refl) old new ready.schema_is 6 (build_at 13) refl (statement_of add_build_sql (understood gate_schema add_build_sql)) params count refl (Values add_build_terms 11) w in
-    let rows : e.0 ≡ build_row x ∷ [] = e.1.1 in
-    let stored : cast_row (build_at 13) (build_row x) ≡ build_row x = rw (cast_int, cast_null, cast_int, cast_int, cast_int, cast_int, cast_int) in
-    let left : new.now.trees 13 ≡ put_row (build_row x) (old.now.trees 13) =
-    e.2.applies.rows ∙ ap (λ rs. edited old.now.trees (edit_of old.now.trees (build_at 13) [] Chosen 0 rs)) rows
+    let e = inserts gate_schema (λ _ _ _. refl) old new ready.schema_is 6 (build_table_at 13) refl (statement_of add_build_sql (understood gate_schema add_build_sql)) params count refl (Values add_build_terms 11) w in
+    let rows : e.0 ≡ build_table_row x ∷ [] = e.1.1 in
+    let stored : cast_row (build_table_at 13) (build_table_row x) ≡ build_table_row x = rw (cast_int, cast_null, cast_int, cast_int, cast_int, cast_int, cast_int) in
+    let left : new.now.trees 13 ≡ put_row (build_table_row x) (old.now.trees 13) =
+    e.2.applies.rows ∙ ap (λ rs. edited old.now.trees (edit_of old.now.trees (build_table_at 13) [] Chosen 0 rs)) rows
     ∙ ap (λ r. put_row (with_rowid Chosen (old.now.trees 13) r) (old.now.trees 13)) stored in
-    let one : are_fresh (old.now.trees 13) (with_rowid Chosen (old.now.trees 13) (cast_row (build_at 13) (build_row x)) ∷ []) ≡ true = rw rows at e.2.applies.fresh in
-    let fresh : are_fresh (old.now.trees 13) (build_row x ∷ []) ≡ true =
+    let one : are_fresh (old.now.trees 13) (with_rowid Chosen (old.now.trees 13) (cast_row (build_table_at 13) (build_table_row x)) ∷ []) ≡ true = rw rows at e.2.applies.fresh in
+    let fresh : are_fresh (old.now.trees 13) (build_table_row x ∷ []) ≡ true =
     subst (λ r. are_fresh (old.now.trees 13) (with_rowid Chosen (old.now.trees 13) r ∷ []) ≡ true) stored one in
     record {
       ready = record { schema_is = e.2.schema_is; inside = h.1.mode };
@@ -77,10 +77,10 @@ adds_build x old new count ready h =
       stands = λ b named stands.
           let free = subst (λ rs. list_any (λ (r : Row). is_eq (value_cmp (rowid r) (Int (pos x.number)))) rs ≡ false) stands.build.rows_are (not-true _ (and_parts _ _ fresh).0) in
           let others : filter (λ y. not (eqb (build_key y) x.number)) b.builds ≡ b.builds =
-          filter_all _ b.builds (all_weaker _ _ (λ y none. ap not none) b.builds (none_has build_key build_row (λ y. refl) x.number b.builds free)) in
+          filter_all _ b.builds (all_weaker _ _ (λ y none. ap not none) b.builds (none_has build_key build_table_row (λ y. refl) x.number b.builds free)) in
           with_builds new.now.trees b _ (others_stay old new _ 13 b e.2 refl refl stands)
-          (subst (λ (ys : List Build). IsKeyed build_key build_row (new.now.trees 13) (insert_by (λ y. pos (build_key y)) ys x)) (sym others)
-          (subst (λ rs. IsKeyed build_key build_row rs (insert_by (λ y. pos (build_key y)) b.builds x)) (sym left) (keyed_put build_key build_row (λ x. refl) x (old.now.trees 13) b.builds stands.build)));
+          (subst (λ (ys : List Build). IsKeyed build_key build_table_row (new.now.trees 13) (insert_by (λ y. pos (build_key y)) ys x)) (sym others)
+          (subst (λ rs. IsKeyed build_key build_table_row rs (insert_by (λ y. pos (build_key y)) b.builds x)) (sym left) (keyed_put build_key build_table_row (λ x. refl) x (old.now.trees 13) b.builds stands.build)));
     }
 
 -- ---- the outcome of a build told
@@ -104,28 +104,28 @@ sets_outcome n o old new count ready h =
     let params = Int (pos n) ∷ Words (outcome_word o) ∷ [] in
     let program : Program = record { lets = []; body = set_outcome_query } in
     let w = runs_as set_outcome_sql params old new gate_schema ready.schema_is (Update 6 program) set_outcome_is.0 set_outcome_is.1 count h.0 in
-    let e = updates gate_schema (λ _ _ _. refl) old new ready.schema_is 6 (build_at 13) refl (statement_of set_outcome_sql (understood gate_schema set_outcome_sql)) params count program w in
+    let e = updates gate_schema (λ _ _ _. refl) old new ready.schema_is 6 (build_table_at 13) refl (statement_of set_outcome_sql (understood gate_schema set_outcome_sql)) params count program w in
     let db = overlay old.now.trees [] in
     let test = passes (key_is 0 ∷ []) params in
-    let new_row = renewed (build_at 13) set_outcome_terms params old.now.trees in
-    let same : (y : Build) → test (build_row y) ≡ eqb (build_key y) n = λ y. rw equal_numbers (and_true (eqb (build_key y) n)) in
+    let new_row = renewed (build_table_at 13) set_outcome_terms params old.now.trees in
+    let same : (y : Build) → test (build_table_row y) ≡ eqb (build_key y) n = λ y. rw equal_numbers (and_true (eqb (build_key y) n)) in
     record {
       ready = record { schema_is = e.2.schema_is; inside = h.1.mode };
       named = λ b named. named;
       stands = λ b named stands.
-          let numbered = keyed_numbered build_key build_row (λ x. refl) (old.now.trees 13) b.builds stands.build in
-          let found : filter test (old.now.trees 13) ≡ map build_row (filter (λ y. eqb (build_key y) n) b.builds) =
-          ap (filter test) stands.build.rows_are ∙ filter-map test build_row b.builds ∙ ap (map build_row) (filter_same _ _ same b.builds) in
-          let few : length (filter (λ y. eqb (build_key y) n) b.builds) ≤ 1 = one_keyed build_key build_row (λ x. refl) n (λ y. eqb (build_key y) n) (λ y e. e) b.builds stands.build.in_order in
+          let numbered = keyed_numbered build_key build_table_row (λ x. refl) (old.now.trees 13) b.builds stands.build in
+          let found : filter test (old.now.trees 13) ≡ map build_table_row (filter (λ y. eqb (build_key y) n) b.builds) =
+          ap (filter test) stands.build.rows_are ∙ filter-map test build_table_row b.builds ∙ ap (map build_table_row) (filter_same _ _ same b.builds) in
+          let few : length (filter (λ y. eqb (build_key y) n) b.builds) ≤ 1 = one_keyed build_key build_table_row (λ x. refl) n (λ y. eqb (build_key y) n) (λ y e. e) b.builds stands.build.in_order in
           let short : length (filter test (old.now.trees 13)) ≤ 1 = rw found (simp length-map few) in
-          let rows : e.0 ≡ map (out (build_at 13) set_outcome_terms params old.now.trees) (filter test (old.now.trees 13)) =
+          let rows : e.0 ≡ map (out (build_table_at 13) set_outcome_terms params old.now.trees) (filter test (old.now.trees 13)) =
           shows_few 13 (key_is 0 ∷ []) (col 1 0 ∷ set_outcome_terms) [] no_limit db params e.0 short (e.1.answer Null) in
           let left : new.now.trees 13 ≡ changed test new_row (old.now.trees 13) =
-          e.2.applies.rows ∙ written_update (build_at 13) set_outcome_terms params old.now.trees e.0 _ rows short
+          e.2.applies.rows ∙ written_update (build_table_at 13) set_outcome_terms params old.now.trees e.0 _ rows short
           ∙ updated_rows test new_row (old.now.trees 13) numbered (λ r its. int_cast (rowid r) its) short in
           with_builds new.now.trees b _ (others_stay old new _ 13 b e.2 refl refl stands)
-          (subst (λ rs. IsKeyed build_key build_row rs (changed (λ y. eqb (build_key y) n) (with_outcome o) b.builds)) (sym left)
-          (keyed_changed build_key build_row (λ x. refl) test new_row (λ y. eqb (build_key y) n) (with_outcome o) same (λ y. rw (cast_int, cast_null, cast_int, cast_int, cast_int, cast_int, cast_int)) (λ y. refl) (old.now.trees 13) b.builds stands.build));
+          (subst (λ rs. IsKeyed build_key build_table_row rs (changed (λ y. eqb (build_key y) n) (with_outcome o) b.builds)) (sym left)
+          (keyed_changed build_key build_table_row (λ x. refl) test new_row (λ y. eqb (build_key y) n) (with_outcome o) same (λ y. rw (cast_int, cast_null, cast_int, cast_int, cast_int, cast_int, cast_int)) (λ y. refl) (old.now.trees 13) b.builds stands.build));
     }
 
 -- ---- a build that stops being live
@@ -149,26 +149,26 @@ stops_build n old new count ready h =
     let params = Int (pos n) ∷ [] in
     let program : Program = record { lets = []; body = stop_build_query } in
     let w = runs_as stop_build_sql params old new gate_schema ready.schema_is (Update 6 program) stop_build_is.0 stop_build_is.1 count h.0 in
-    let e = updates gate_schema (λ _ _ _. refl) old new ready.schema_is 6 (build_at 13) refl (statement_of stop_build_sql (understood gate_schema stop_build_sql)) params count program w in
+    let e = updates gate_schema (λ _ _ _. refl) old new ready.schema_is 6 (build_table_at 13) refl (statement_of stop_build_sql (understood gate_schema stop_build_sql)) params count program w in
     let db = overlay old.now.trees [] in
     let test = passes (key_is 0 ∷ []) params in
-    let new_row = renewed (build_at 13) stop_build_terms params old.now.trees in
-    let same : (y : Build) → test (build_row y) ≡ eqb (build_key y) n = λ y. rw equal_numbers (and_true (eqb (build_key y) n)) in
+    let new_row = renewed (build_table_at 13) stop_build_terms params old.now.trees in
+    let same : (y : Build) → test (build_table_row y) ≡ eqb (build_key y) n = λ y. rw equal_numbers (and_true (eqb (build_key y) n)) in
     record {
       ready = record { schema_is = e.2.schema_is; inside = h.1.mode };
       named = λ b named. named;
       stands = λ b named stands.
-          let numbered = keyed_numbered build_key build_row (λ x. refl) (old.now.trees 13) b.builds stands.build in
-          let found : filter test (old.now.trees 13) ≡ map build_row (filter (λ y. eqb (build_key y) n) b.builds) =
-          ap (filter test) stands.build.rows_are ∙ filter-map test build_row b.builds ∙ ap (map build_row) (filter_same _ _ same b.builds) in
-          let few : length (filter (λ y. eqb (build_key y) n) b.builds) ≤ 1 = one_keyed build_key build_row (λ x. refl) n (λ y. eqb (build_key y) n) (λ y e. e) b.builds stands.build.in_order in
+          let numbered = keyed_numbered build_key build_table_row (λ x. refl) (old.now.trees 13) b.builds stands.build in
+          let found : filter test (old.now.trees 13) ≡ map build_table_row (filter (λ y. eqb (build_key y) n) b.builds) =
+          ap (filter test) stands.build.rows_are ∙ filter-map test build_table_row b.builds ∙ ap (map build_table_row) (filter_same _ _ same b.builds) in
+          let few : length (filter (λ y. eqb (build_key y) n) b.builds) ≤ 1 = one_keyed build_key build_table_row (λ x. refl) n (λ y. eqb (build_key y) n) (λ y e. e) b.builds stands.build.in_order in
           let short : length (filter test (old.now.trees 13)) ≤ 1 = rw found (simp length-map few) in
-          let rows : e.0 ≡ map (out (build_at 13) stop_build_terms params old.now.trees) (filter test (old.now.trees 13)) =
+          let rows : e.0 ≡ map (out (build_table_at 13) stop_build_terms params old.now.trees) (filter test (old.now.trees 13)) =
           shows_few 13 (key_is 0 ∷ []) (col 1 0 ∷ stop_build_terms) [] no_limit db params e.0 short (e.1.answer Null) in
           let left : new.now.trees 13 ≡ changed test new_row (old.now.trees 13) =
-          e.2.applies.rows ∙ written_update (build_at 13) stop_build_terms params old.now.trees e.0 _ rows short
+          e.2.applies.rows ∙ written_update (build_table_at 13) stop_build_terms params old.now.trees e.0 _ rows short
           ∙ updated_rows test new_row (old.now.trees 13) numbered (λ r its. int_cast (rowid r) its) short in
           with_builds new.now.trees b _ (others_stay old new _ 13 b e.2 refl refl stands)
-          (subst (λ rs. IsKeyed build_key build_row rs (changed (λ y. eqb (build_key y) n) (with_live false) b.builds)) (sym left)
-          (keyed_changed build_key build_row (λ x. refl) test new_row (λ y. eqb (build_key y) n) (with_live false) same (λ y. rw (cast_int, cast_null, cast_int, cast_int, cast_int, cast_int, cast_int)) (λ y. refl) (old.now.trees 13) b.builds stands.build));
+          (subst (λ rs. IsKeyed build_key build_table_row rs (changed (λ y. eqb (build_key y) n) (with_live false) b.builds)) (sym left)
+          (keyed_changed build_key build_table_row (λ x. refl) test new_row (λ y. eqb (build_key y) n) (with_live false) same (λ y. rw (cast_int, cast_null, cast_int, cast_int, cast_int, cast_int, cast_int)) (λ y. refl) (old.now.trees 13) b.builds stands.build));
     }

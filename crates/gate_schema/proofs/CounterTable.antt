@@ -22,7 +22,7 @@ use Rattle.gate_types.specs.declared.edits.Counter.{Counter}
 use Rattle.gate_types.specs.declared.edits.Counter.TheVariants.{Approval, Build, Order}
 use Rattle.gate_schema.specs.Edits.{draw}
 use Rattle.gate_schema.specs.Rows.{IsReady, Changes, IsFixed, counter_columns}
-use Rattle.gate_schema.specs.Schema.{gate_schema, counter_at}
+use Rattle.gate_schema.specs.Schema.{gate_schema, counter_table_at}
 use Rattle.gate_types.specs.Words.{counter_word}
 use Rattle.gate_schema.proofs.ChangeLemmas.{changed, listed_changed, numbered_changed, updated_rows}
 use Rattle.gate_schema.proofs.QueryLemmas.{over_table, passes, shows_few}
@@ -57,10 +57,10 @@ sets_counter k n old new count ready h =
     let params = Words (counter_word k) ∷ Int (pos n) ∷ [] in
     let program : Program = record { lets = []; body = set_counter_query } in
     let w = runs_as set_counter_sql params old new gate_schema ready.schema_is (Update 1 program) set_counter_is.0 set_counter_is.1 count h.0 in
-    let e = updates gate_schema (λ _ _ _. refl) old new ready.schema_is 1 (counter_at 2) refl (statement_of set_counter_sql (understood gate_schema set_counter_sql)) params count program w in
+    let e = updates gate_schema (λ _ _ _. refl) old new ready.schema_is 1 (counter_table_at 2) refl (statement_of set_counter_sql (understood gate_schema set_counter_sql)) params count program w in
     let db = overlay old.now.trees [] in
     let test = passes (key_is 1 ∷ []) params in
-    let new_row = renewed (counter_at 2) set_counter_terms params old.now.trees in
+    let new_row = renewed (counter_table_at 2) set_counter_terms params old.now.trees in
     let p : (List ℕ × ℕ) → Bool = λ x. bytes_eq x.0 (counter_word k) in
     let same : (v : Row) (x : List ℕ × ℕ) → drop 1 v ≡ pair_columns x → test v ≡ bytes_eq x.0 (counter_word k) = λ v x is. behind test v _ _ _ (λ y. rw equal_texts (and_true (bytes_eq x.0 (counter_word k)))) is in
     let made : (v : Row) (x : List ℕ × ℕ) → drop 1 v ≡ pair_columns x → drop 1 (new_row v) ≡ pair_columns (x.0, n) = λ v x is. made_count k n x old.now.trees v is in
@@ -70,10 +70,10 @@ sets_counter k n old new count ready h =
       stands = λ b named stands.
           let few : length (filter (λ x. bytes_eq x.0 (counter_word k)) (pairs b.counters)) ≤ 1 = one_of k b.counters in
           let short : length (filter test (old.now.trees 2)) ≤ 1 = subst (λ n. n ≤ 1) (sym (few_found pair_columns test (λ x. bytes_eq x.0 (counter_word k)) same (old.now.trees 2) (pairs b.counters) stands.counter.columns_are)) few in
-          let rows : e.0 ≡ map (out (counter_at 2) set_counter_terms params old.now.trees) (filter test (old.now.trees 2)) =
+          let rows : e.0 ≡ map (out (counter_table_at 2) set_counter_terms params old.now.trees) (filter test (old.now.trees 2)) =
           shows_few 2 (key_is 1 ∷ []) (col 1 0 ∷ set_counter_terms) [] no_limit db params e.0 short (e.1.answer Null) in
           let left : new.now.trees 2 ≡ changed test new_row (old.now.trees 2) =
-          e.2.applies.rows ∙ written_update (counter_at 2) set_counter_terms params old.now.trees e.0 _ rows short
+          e.2.applies.rows ∙ written_update (counter_table_at 2) set_counter_terms params old.now.trees e.0 _ rows short
           ∙ updated_rows test new_row (old.now.trees 2) stands.counter.numbered (λ r its. int_cast (rowid r) its) short in
           with_counters new.now.trees b (set_counter k n b.counters) (others_stay old new _ 2 b e.2 refl refl stands)
           (subst (IsFixed (counter_columns (set_counter k n b.counters))) (sym left) (record {
@@ -83,9 +83,9 @@ sets_counter k n old new count ready h =
     }
   where
     made_count : (k : Counter) (n : ℕ) (x : List ℕ × ℕ) (db : Trees) (v : Row) → drop 1 v ≡ pair_columns x
-        → drop 1 (renewed (counter_at 2) set_counter_terms (Words (counter_word k) ∷ Int (pos n) ∷ []) db v) ≡ pair_columns (x.0, n)
+        → drop 1 (renewed (counter_table_at 2) set_counter_terms (Words (counter_word k) ∷ Int (pos n) ∷ []) db v) ≡ pair_columns (x.0, n)
     made_count k n x db [] is = absurd cc
-    made_count k n x db (y ∷ rest) is = ap (λ l. drop 1 (renewed (counter_at 2) set_counter_terms (Words (counter_word k) ∷ Int (pos n) ∷ []) db (y ∷ l))) is ∙ rw cast_int
+    made_count k n x db (y ∷ rest) is = ap (λ l. drop 1 (renewed (counter_table_at 2) set_counter_terms (Words (counter_word k) ∷ Int (pos n) ∷ []) db (y ∷ l))) is ∙ rw cast_int
 
     one_of : (k : Counter) (d : Drawn) → length (filter (λ x. bytes_eq x.0 (counter_word k)) (pairs d)) ≤ 1
     one_of Approval d = omega arith

@@ -14,7 +14,7 @@ use Rattle.sqlite_tied.specs.Compute.{everything}
 use Rattle.sqlite_trees.specs.Tree.{put_row}
 use Rattle.gate_schema.specs.Edits.{add_kept}
 use Rattle.gate_schema.specs.Rows.{IsReady, Changes, IsListed, kept_columns}
-use Rattle.gate_schema.specs.Schema.{gate_schema, delivery_at}
+use Rattle.gate_schema.specs.Schema.{gate_schema, delivery_table_at}
 use Rattle.gate_schema.proofs.RowLemmas.{cast_null}
 use Rattle.gate_schema.proofs.Statements.{Is}
 use Rattle.gate_schema.proofs.TableLemmas.{others_stay, with_kept, listed_next}
@@ -38,11 +38,11 @@ pub adds_kept : (x : Kept) (old new : State) (count : ℕ) → IsReady old → E
 adds_kept x old new count ready h =
     let params = kept_columns x in
     let w = runs_as add_kept_sql params old new gate_schema ready.schema_is (Insert 9 (Values add_kept_terms 4)) add_kept_is.0 add_kept_is.1 count h.0 in
-    let e = inserts gate_schema (λ _ _ _. refl) old new ready.schema_is 9 (delivery_at 21) refl (statement_of add_kept_sql (understood gate_schema add_kept_sql)) params count refl (Values add_kept_terms 4) w in
+    let e = inserts gate_schema (λ _ _ _. refl) old new ready.schema_is 9 (delivery_table_at 21) refl (statement_of add_kept_sql (understood gate_schema add_kept_sql)) params count refl (Values add_kept_terms 4) w in
     let rows : e.0 ≡ (Null ∷ kept_columns x) ∷ [] = e.1.1 in
-    let stored : cast_row (delivery_at 21) (Null ∷ kept_columns x) ≡ Null ∷ kept_columns x = rw (cast_null) in
+    let stored : cast_row (delivery_table_at 21) (Null ∷ kept_columns x) ≡ Null ∷ kept_columns x = rw (cast_null) in
     let left : new.now.trees 21 ≡ put_row (Int (next_rowid (old.now.trees 21)) ∷ kept_columns x) (old.now.trees 21) =
-    e.2.applies.rows ∙ ap (λ rs. edited old.now.trees (edit_of old.now.trees (delivery_at 21) [] Chosen 0 rs)) rows
+    e.2.applies.rows ∙ ap (λ rs. edited old.now.trees (edit_of old.now.trees (delivery_table_at 21) [] Chosen 0 rs)) rows
     ∙ ap (λ r. put_row (with_rowid Chosen (old.now.trees 21) r) (old.now.trees 21)) stored in
     record {
       ready = record { schema_is = e.2.schema_is; inside = h.1.mode };

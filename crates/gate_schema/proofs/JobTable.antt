@@ -20,7 +20,7 @@ use Rattle.sqlite_tied.specs.Compute.{everything}
 use Rattle.sqlite_trees.specs.Tree.{put_row}
 use Rattle.gate_schema.specs.Edits.{add_jobs, drop_jobs}
 use Rattle.gate_schema.specs.Rows.{JobRow, IsReady, Changes, IsListed, job_columns}
-use Rattle.gate_schema.specs.Schema.{gate_schema, item_job_at}
+use Rattle.gate_schema.specs.Schema.{gate_schema, item_job_table_at}
 use Rattle.gate_schema.proofs.ChangeLemmas.{listed_without, numbered_filter}
 use Rattle.gate_schema.proofs.DeleteLemmas.{deleted_ids, leaves_others}
 use Rattle.gate_schema.proofs.QueryLemmas.{over_table, passes}
@@ -47,11 +47,11 @@ pub adds_job : (x : JobRow) (old new : State) (count : ℕ) → IsReady old → 
 adds_job x old new count ready h =
     let params = job_columns x in
     let w = runs_as add_job_sql params old new gate_schema ready.schema_is (Insert 10 (Values add_job_terms 5)) add_job_is.0 add_job_is.1 count h.0 in
-    let e = inserts gate_schema (λ _ _ _. refl) old new ready.schema_is 10 (item_job_at 26) refl (statement_of add_job_sql (understood gate_schema add_job_sql)) params count refl (Values add_job_terms 5) w in
+    let e = inserts gate_schema (λ _ _ _. refl) old new ready.schema_is 10 (item_job_table_at 26) refl (statement_of add_job_sql (understood gate_schema add_job_sql)) params count refl (Values add_job_terms 5) w in
     let rows : e.0 ≡ (Null ∷ job_columns x) ∷ [] = e.1.1 in
-    let stored : cast_row (item_job_at 26) (Null ∷ job_columns x) ≡ Null ∷ job_columns x = rw (cast_null, cast_int, cast_int, cast_int) in
+    let stored : cast_row (item_job_table_at 26) (Null ∷ job_columns x) ≡ Null ∷ job_columns x = rw (cast_null, cast_int, cast_int, cast_int) in
     let left : new.now.trees 26 ≡ put_row (Int (next_rowid (old.now.trees 26)) ∷ job_columns x) (old.now.trees 26) =
-    e.2.applies.rows ∙ ap (λ rs. edited old.now.trees (edit_of old.now.trees (item_job_at 26) [] Chosen 0 rs)) rows
+    e.2.applies.rows ∙ ap (λ rs. edited old.now.trees (edit_of old.now.trees (item_job_table_at 26) [] Chosen 0 rs)) rows
     ∙ ap (λ r. put_row (with_rowid Chosen (old.now.trees 26) r) (old.now.trees 26)) stored in
     record {
       ready = record { schema_is = e.2.schema_is; inside = h.1.mode };
@@ -78,7 +78,7 @@ drops_jobs n old new count ready h =
     let params = Int (pos n) ∷ [] in
     let program : Program = record { lets = []; body = drop_jobs_query } in
     let w = runs_as drop_jobs_sql params old new gate_schema ready.schema_is (Delete 10 program) drop_jobs_is.0 drop_jobs_is.1 count h.0 in
-    let e = deletes gate_schema (λ _ _ _. refl) old new ready.schema_is 10 (item_job_at 26) refl (statement_of drop_jobs_sql (understood gate_schema drop_jobs_sql)) params count program w in
+    let e = deletes gate_schema (λ _ _ _. refl) old new ready.schema_is 10 (item_job_table_at 26) refl (statement_of drop_jobs_sql (understood gate_schema drop_jobs_sql)) params count program w in
     let db = overlay old.now.trees [] in
     let test = passes (key_is 1 ∷ []) params in
     let same : (v : Row) (x : JobRow) → drop 1 v ≡ job_columns x → test v ≡ eqb x.serial n = λ v x is. behind test v _ _ _ (λ w. rw equal_numbers (and_true (eqb x.serial n))) is in

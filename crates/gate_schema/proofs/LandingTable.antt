@@ -14,7 +14,7 @@ use Rattle.sqlite_tied.specs.Compute.{everything}
 use Rattle.sqlite_trees.specs.Tree.{put_row}
 use Rattle.gate_schema.specs.Edits.{add_landing}
 use Rattle.gate_schema.specs.Rows.{QueueLanding, IsReady, Changes, IsListed, landing_columns}
-use Rattle.gate_schema.specs.Schema.{gate_schema, landing_at}
+use Rattle.gate_schema.specs.Schema.{gate_schema, landing_table_at}
 use Rattle.gate_schema.proofs.RowLemmas.{cast_int, cast_null}
 use Rattle.gate_schema.proofs.Statements.{Is}
 use Rattle.gate_schema.proofs.TableLemmas.{others_stay, with_landings, listed_next}
@@ -37,11 +37,11 @@ pub adds_landing : (x : QueueLanding) (old new : State) (count : ℕ) → IsRead
 adds_landing x old new count ready h =
     let params = landing_columns x in
     let w = runs_as add_landing_sql params old new gate_schema ready.schema_is (Insert 7 (Values add_landing_terms 6)) add_landing_is.0 add_landing_is.1 count h.0 in
-    let e = inserts gate_schema (λ _ _ _. refl) old new ready.schema_is 7 (landing_at 14) refl (statement_of add_landing_sql (understood gate_schema add_landing_sql)) params count refl (Values add_landing_terms 6) w in
+    let e = inserts gate_schema (λ _ _ _. refl) old new ready.schema_is 7 (landing_table_at 14) refl (statement_of add_landing_sql (understood gate_schema add_landing_sql)) params count refl (Values add_landing_terms 6) w in
     let rows : e.0 ≡ (Null ∷ landing_columns x) ∷ [] = e.1.1 in
-    let stored : cast_row (landing_at 14) (Null ∷ landing_columns x) ≡ Null ∷ landing_columns x = rw (cast_null, cast_int, cast_int, cast_int, cast_int) in
+    let stored : cast_row (landing_table_at 14) (Null ∷ landing_columns x) ≡ Null ∷ landing_columns x = rw (cast_null, cast_int, cast_int, cast_int, cast_int) in
     let left : new.now.trees 14 ≡ put_row (Int (next_rowid (old.now.trees 14)) ∷ landing_columns x) (old.now.trees 14) =
-    e.2.applies.rows ∙ ap (λ rs. edited old.now.trees (edit_of old.now.trees (landing_at 14) [] Chosen 0 rs)) rows
+    e.2.applies.rows ∙ ap (λ rs. edited old.now.trees (edit_of old.now.trees (landing_table_at 14) [] Chosen 0 rs)) rows
     ∙ ap (λ r. put_row (with_rowid Chosen (old.now.trees 14) r) (old.now.trees 14)) stored in
     record {
       ready = record { schema_is = e.2.schema_is; inside = h.1.mode };

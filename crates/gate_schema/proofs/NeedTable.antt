@@ -20,7 +20,7 @@ use Rattle.sqlite_tied.specs.Compute.{everything}
 use Rattle.sqlite_trees.specs.Tree.{put_row}
 use Rattle.gate_schema.specs.Edits.{add_needs, drop_needs}
 use Rattle.gate_schema.specs.Rows.{NeedRow, IsReady, Changes, IsListed, need_columns}
-use Rattle.gate_schema.specs.Schema.{gate_schema, need_at}
+use Rattle.gate_schema.specs.Schema.{gate_schema, need_table_at}
 use Rattle.gate_schema.proofs.ChangeLemmas.{listed_without, numbered_filter}
 use Rattle.gate_schema.proofs.DeleteLemmas.{deleted_ids, leaves_others}
 use Rattle.gate_schema.proofs.QueryLemmas.{over_table, passes}
@@ -47,11 +47,11 @@ pub adds_need : (x : NeedRow) (old new : State) (count : ℕ) → IsReady old �
 adds_need x old new count ready h =
     let params = need_columns x in
     let w = runs_as add_need_sql params old new gate_schema ready.schema_is (Insert 4 (Values add_need_terms 4)) add_need_is.0 add_need_is.1 count h.0 in
-    let e = inserts gate_schema (λ _ _ _. refl) old new ready.schema_is 4 (need_at 9) refl (statement_of add_need_sql (understood gate_schema add_need_sql)) params count refl (Values add_need_terms 4) w in
+    let e = inserts gate_schema (λ _ _ _. refl) old new ready.schema_is 4 (need_table_at 9) refl (statement_of add_need_sql (understood gate_schema add_need_sql)) params count refl (Values add_need_terms 4) w in
     let rows : e.0 ≡ (Null ∷ need_columns x) ∷ [] = e.1.1 in
-    let stored : cast_row (need_at 9) (Null ∷ need_columns x) ≡ Null ∷ need_columns x = rw (cast_null, cast_int, cast_int, cast_int) in
+    let stored : cast_row (need_table_at 9) (Null ∷ need_columns x) ≡ Null ∷ need_columns x = rw (cast_null, cast_int, cast_int, cast_int) in
     let left : new.now.trees 9 ≡ put_row (Int (next_rowid (old.now.trees 9)) ∷ need_columns x) (old.now.trees 9) =
-    e.2.applies.rows ∙ ap (λ rs. edited old.now.trees (edit_of old.now.trees (need_at 9) [] Chosen 0 rs)) rows
+    e.2.applies.rows ∙ ap (λ rs. edited old.now.trees (edit_of old.now.trees (need_table_at 9) [] Chosen 0 rs)) rows
     ∙ ap (λ r. put_row (with_rowid Chosen (old.now.trees 9) r) (old.now.trees 9)) stored in
     record {
       ready = record { schema_is = e.2.schema_is; inside = h.1.mode };
@@ -78,7 +78,7 @@ drops_needs n old new count ready h =
     let params = Int (pos n) ∷ [] in
     let program : Program = record { lets = []; body = drop_needs_query } in
     let w = runs_as drop_needs_sql params old new gate_schema ready.schema_is (Delete 4 program) drop_needs_is.0 drop_needs_is.1 count h.0 in
-    let e = deletes gate_schema (λ _ _ _. refl) old new ready.schema_is 4 (need_at 9) refl (statement_of drop_needs_sql (understood gate_schema drop_needs_sql)) params count program w in
+    let e = deletes gate_schema (λ _ _ _. refl) old new ready.schema_is 4 (need_table_at 9) refl (statement_of drop_needs_sql (understood gate_schema drop_needs_sql)) params count program w in
     let db = overlay old.now.trees [] in
     let test = passes (key_is 1 ∷ []) params in
     let same : (v : Row) (x : NeedRow) → drop 1 v ≡ need_columns x → test v ≡ eqb x.change n = λ v x is. behind test v _ _ _ (λ w. rw equal_numbers (and_true (eqb x.change n))) is in

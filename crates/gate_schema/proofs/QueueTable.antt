@@ -20,7 +20,7 @@ use Rattle.sqlite_tied.specs.Compute.{everything}
 use Rattle.sqlite_trees.specs.Tree.{rowid}
 use Rattle.gate_schema.specs.Edits.{set_window}
 use Rattle.gate_schema.specs.Rows.{Stored, QueueRow, AreNamed, IsReady, Changes, IsListed, queue_columns}
-use Rattle.gate_schema.specs.Schema.{gate_schema, queue_at}
+use Rattle.gate_schema.specs.Schema.{gate_schema, queue_table_at}
 use Rattle.gate_schema.proofs.ChangeLemmas.{changed, listed_changed, numbered_changed, updated_rows}
 use Rattle.gate_schema.proofs.QueryLemmas.{over_table, passes, shows_few}
 use Rattle.gate_schema.proofs.RowLemmas.{cast_int, int_cast, behind, few_found, out, renewed, written_update}
@@ -65,10 +65,10 @@ sets_window name win old new count ready h =
     let params = Words name ∷ Int (pos win) ∷ [] in
     let program : Program = record { lets = []; body = set_window_query } in
     let w = runs_as set_window_sql params old new gate_schema ready.schema_is (Update 2 program) set_window_is.0 set_window_is.1 count h.0 in
-    let e = updates gate_schema (λ _ _ _. refl) old new ready.schema_is 2 (queue_at 4) refl (statement_of set_window_sql (understood gate_schema set_window_sql)) params count program w in
+    let e = updates gate_schema (λ _ _ _. refl) old new ready.schema_is 2 (queue_table_at 4) refl (statement_of set_window_sql (understood gate_schema set_window_sql)) params count program w in
     let db = overlay old.now.trees [] in
     let test = passes (key_is 1 ∷ []) params in
-    let new_row = renewed (queue_at 4) set_window_terms params old.now.trees in
+    let new_row = renewed (queue_table_at 4) set_window_terms params old.now.trees in
     let same : (v : Row) (q : QueueRow) → drop 1 v ≡ queue_columns q → test v ≡ bytes_eq q.name name = λ v q is. behind test v _ _ _ (λ x. rw equal_texts (and_true (bytes_eq q.name name))) is in
     let made : (v : Row) (q : QueueRow) → drop 1 v ≡ queue_columns q → drop 1 (new_row v) ≡ queue_columns (record q { window = win }) = λ v q is. made_window name win q old.now.trees v is in
     record {
@@ -76,10 +76,10 @@ sets_window name win old new count ready h =
       named = λ b named. still_named name win b named;
       stands = λ b named stands.
           let short : length (filter test (old.now.trees 4)) ≤ 1 = subst (λ n. n ≤ 1) (sym (few_found queue_columns test (λ q. bytes_eq q.name name) same (old.now.trees 4) b.queues stands.queue.columns_are)) (named name) in
-          let rows : e.0 ≡ map (out (queue_at 4) set_window_terms params old.now.trees) (filter test (old.now.trees 4)) =
+          let rows : e.0 ≡ map (out (queue_table_at 4) set_window_terms params old.now.trees) (filter test (old.now.trees 4)) =
           shows_few 4 (key_is 1 ∷ []) (col 1 0 ∷ set_window_terms) [] no_limit db params e.0 short (e.1.answer Null) in
           let left : new.now.trees 4 ≡ changed test new_row (old.now.trees 4) =
-          e.2.applies.rows ∙ written_update (queue_at 4) set_window_terms params old.now.trees e.0 _ rows short
+          e.2.applies.rows ∙ written_update (queue_table_at 4) set_window_terms params old.now.trees e.0 _ rows short
           ∙ updated_rows test new_row (old.now.trees 4) stands.queue.numbered (λ r its. int_cast (rowid r) its) short in
           with_queues new.now.trees b _ (others_stay old new _ 4 b e.2 refl refl stands)
           (subst (λ rs. IsListed queue_columns rs (changed (λ q. bytes_eq q.name name) (λ q. record q { window = win }) b.queues)) (sym left) (record {
@@ -89,6 +89,6 @@ sets_window name win old new count ready h =
     }
   where
     made_window : (name : List ℕ) (win : ℕ) (q : QueueRow) (db : Trees) (v : Row) → drop 1 v ≡ queue_columns q
-        → drop 1 (renewed (queue_at 4) set_window_terms (Words name ∷ Int (pos win) ∷ []) db v) ≡ queue_columns (record q { window = win })
+        → drop 1 (renewed (queue_table_at 4) set_window_terms (Words name ∷ Int (pos win) ∷ []) db v) ≡ queue_columns (record q { window = win })
     made_window name win q db [] is = absurd cc
-    made_window name win q db (x ∷ rest) is = ap (λ l. drop 1 (renewed (queue_at 4) set_window_terms (Words name ∷ Int (pos win) ∷ []) db (x ∷ l))) is ∙ rw (cast_int, cast_int)
+    made_window name win q db (x ∷ rest) is = ap (λ l. drop 1 (renewed (queue_table_at 4) set_window_terms (Words name ∷ Int (pos win) ∷ []) db (x ∷ l))) is ∙ rw (cast_int, cast_int)

@@ -14,7 +14,7 @@ use Rattle.sqlite_tied.specs.Compute.{everything}
 use Rattle.sqlite_trees.specs.Tree.{put_row}
 use Rattle.gate_schema.specs.Edits.{add_report}
 use Rattle.gate_schema.specs.Rows.{QueueReport, IsReady, Changes, IsListed, report_columns}
-use Rattle.gate_schema.specs.Schema.{gate_schema, report_at}
+use Rattle.gate_schema.specs.Schema.{gate_schema, report_table_at}
 use Rattle.gate_schema.proofs.RowLemmas.{cast_int, cast_null, cast_or_null}
 use Rattle.gate_schema.proofs.Statements.{Is}
 use Rattle.gate_schema.proofs.TableLemmas.{others_stay, with_reports, listed_next}
@@ -37,11 +37,11 @@ pub adds_report : (x : QueueReport) (old new : State) (count : ℕ) → IsReady 
 adds_report x old new count ready h =
     let params = report_columns x in
     let w = runs_as add_report_sql params old new gate_schema ready.schema_is (Insert 8 (Values add_report_terms 8)) add_report_is.0 add_report_is.1 count h.0 in
-    let e = inserts gate_schema (λ _ _ _. refl) old new ready.schema_is 8 (report_at 18) refl (statement_of add_report_sql (understood gate_schema add_report_sql)) params count refl (Values add_report_terms 8) w in
+    let e = inserts gate_schema (λ _ _ _. refl) old new ready.schema_is 8 (report_table_at 18) refl (statement_of add_report_sql (understood gate_schema add_report_sql)) params count refl (Values add_report_terms 8) w in
     let rows : e.0 ≡ (Null ∷ report_columns x) ∷ [] = e.1.1 in
-    let stored : cast_row (report_at 18) (Null ∷ report_columns x) ≡ Null ∷ report_columns x = rw (cast_null, cast_int, cast_int, cast_int, cast_int, cast_or_null) in
+    let stored : cast_row (report_table_at 18) (Null ∷ report_columns x) ≡ Null ∷ report_columns x = rw (cast_null, cast_int, cast_int, cast_int, cast_int, cast_or_null) in
     let left : new.now.trees 18 ≡ put_row (Int (next_rowid (old.now.trees 18)) ∷ report_columns x) (old.now.trees 18) =
-    e.2.applies.rows ∙ ap (λ rs. edited old.now.trees (edit_of old.now.trees (report_at 18) [] Chosen 0 rs)) rows
+    e.2.applies.rows ∙ ap (λ rs. edited old.now.trees (edit_of old.now.trees (report_table_at 18) [] Chosen 0 rs)) rows
     ∙ ap (λ r. put_row (with_rowid Chosen (old.now.trees 18) r) (old.now.trees 18)) stored in
     record {
       ready = record { schema_is = e.2.schema_is; inside = h.1.mode };

@@ -33,15 +33,15 @@ pub record Others (t : ℕ) (db : Trees) (b : Stored) : Type 0 where
   pub meta : eqb 0 t ≡ false → IsFixed (rows.meta_columns b.settings) (db 0)
   pub counter : eqb 2 t ≡ false → IsFixed (rows.counter_columns b.counters) (db 2)
   pub queue : eqb 4 t ≡ false → IsListed rows.queue_columns (db 4) b.queues
-  pub change : eqb 7 t ≡ false → IsKeyed rows.change_key rows.change_row (db 7) b.changes
+  pub change : eqb 7 t ≡ false → IsKeyed rows.change_key rows.change_table_row (db 7) b.changes
   pub need : eqb 9 t ≡ false → IsListed rows.need_columns (db 9) b.needs
-  pub item : eqb 11 t ≡ false → IsKeyed rows.item_key rows.item_row (db 11) b.items
-  pub build : eqb 13 t ≡ false → IsKeyed rows.build_key rows.build_row (db 13) b.builds
+  pub item : eqb 11 t ≡ false → IsKeyed rows.item_key rows.item_table_row (db 11) b.items
+  pub build : eqb 13 t ≡ false → IsKeyed rows.build_key rows.build_table_row (db 13) b.builds
   pub landing : eqb 14 t ≡ false → IsListed rows.landing_columns (db 14) b.landings
   pub report : eqb 18 t ≡ false → IsListed rows.report_columns (db 18) b.reports
   pub delivery : eqb 21 t ≡ false → IsListed rows.kept_columns (db 21) b.kept
   pub job : eqb 26 t ≡ false → IsListed rows.job_columns (db 26) b.jobs
-  pub fast : eqb 28 t ≡ false → IsKeyed rows.fast_key rows.fast_row (db 28) b.fast
+  pub fast : eqb 28 t ≡ false → IsKeyed rows.fast_key rows.fast_table_row (db 28) b.fast
 
 pub others_stay : (old new : State) (edit : Edit) (t : ℕ) (b : Stored) → Edits gate_schema old new edit → edit.table.tree ≡ t → eqb catalog_tree t ≡ false → Stands old.now.trees b → Others t new.now.trees b
 others_stay old new edit t b made is far stands =
@@ -56,15 +56,15 @@ others_stay old new edit t b made is far stands =
       meta = λ e. subst (IsFixed (rows.meta_columns b.settings)) (sym (same.0 (no 0 e))) stands.meta;
       counter = λ e. subst (IsFixed (rows.counter_columns b.counters)) (sym (same.1.0 (no 2 e))) stands.counter;
       queue = λ e. subst (λ rs. IsListed rows.queue_columns rs b.queues) (sym (same.1.1.0 (no 4 e))) stands.queue;
-      change = λ e. subst (λ rs. IsKeyed rows.change_key rows.change_row rs b.changes) (sym (same.1.1.1.0 (no 7 e))) stands.change;
+      change = λ e. subst (λ rs. IsKeyed rows.change_key rows.change_table_row rs b.changes) (sym (same.1.1.1.0 (no 7 e))) stands.change;
       need = λ e. subst (λ rs. IsListed rows.need_columns rs b.needs) (sym (same.1.1.1.1.0 (no 9 e))) stands.need;
-      item = λ e. subst (λ rs. IsKeyed rows.item_key rows.item_row rs b.items) (sym (same.1.1.1.1.1.0 (no 11 e))) stands.item;
-      build = λ e. subst (λ rs. IsKeyed rows.build_key rows.build_row rs b.builds) (sym (same.1.1.1.1.1.1.0 (no 13 e))) stands.build;
+      item = λ e. subst (λ rs. IsKeyed rows.item_key rows.item_table_row rs b.items) (sym (same.1.1.1.1.1.0 (no 11 e))) stands.item;
+      build = λ e. subst (λ rs. IsKeyed rows.build_key rows.build_table_row rs b.builds) (sym (same.1.1.1.1.1.1.0 (no 13 e))) stands.build;
       landing = λ e. subst (λ rs. IsListed rows.landing_columns rs b.landings) (sym (same.1.1.1.1.1.1.1.0 (no 14 e))) stands.landing;
       report = λ e. subst (λ rs. IsListed rows.report_columns rs b.reports) (sym (same.1.1.1.1.1.1.1.1.0 (no 18 e))) stands.report;
       delivery = λ e. subst (λ rs. IsListed rows.kept_columns rs b.kept) (sym (same.1.1.1.1.1.1.1.1.1.0 (no 21 e))) stands.delivery;
       job = λ e. subst (λ rs. IsListed rows.job_columns rs b.jobs) (sym (same.1.1.1.1.1.1.1.1.1.1.0 (no 26 e))) stands.job;
-      fast = λ e. subst (λ rs. IsKeyed rows.fast_key rows.fast_row rs b.fast) (sym (same.1.1.1.1.1.1.1.1.1.1.1.0 (no 28 e))) stands.fast;
+      fast = λ e. subst (λ rs. IsKeyed rows.fast_key rows.fast_table_row rs b.fast) (sym (same.1.1.1.1.1.1.1.1.1.1.1.0 (no 28 e))) stands.fast;
     }
 
 pub with_counters : (db : Trees) (b : Stored) (x : Rattle.gate_types.specs.Counters.Drawn) → Others 2 db b → IsFixed (rows.counter_columns x) (db 2) → Stands db (record b { counters = x })
@@ -73,16 +73,16 @@ with_counters db b x o h = record { listed = o.listed; meta = o.meta refl; count
 pub with_queues : (db : Trees) (b : Stored) (x : List rows.QueueRow) → Others 4 db b → IsListed rows.queue_columns (db 4) x → Stands db (record b { queues = x })
 with_queues db b x o h = record { listed = o.listed; meta = o.meta refl; counter = o.counter refl; queue = h; change = o.change refl; need = o.need refl; item = o.item refl; build = o.build refl; landing = o.landing refl; report = o.report refl; delivery = o.delivery refl; job = o.job refl; fast = o.fast refl }
 
-pub with_changes : (db : Trees) (b : Stored) (x : List ChangeRow) → Others 7 db b → IsKeyed rows.change_key rows.change_row (db 7) x → Stands db (record b { changes = x })
+pub with_changes : (db : Trees) (b : Stored) (x : List ChangeRow) → Others 7 db b → IsKeyed rows.change_key rows.change_table_row (db 7) x → Stands db (record b { changes = x })
 with_changes db b x o h = record { listed = o.listed; meta = o.meta refl; counter = o.counter refl; queue = o.queue refl; change = h; need = o.need refl; item = o.item refl; build = o.build refl; landing = o.landing refl; report = o.report refl; delivery = o.delivery refl; job = o.job refl; fast = o.fast refl }
 
 pub with_needs : (db : Trees) (b : Stored) (x : List rows.NeedRow) → Others 9 db b → IsListed rows.need_columns (db 9) x → Stands db (record b { needs = x })
 with_needs db b x o h = record { listed = o.listed; meta = o.meta refl; counter = o.counter refl; queue = o.queue refl; change = o.change refl; need = h; item = o.item refl; build = o.build refl; landing = o.landing refl; report = o.report refl; delivery = o.delivery refl; job = o.job refl; fast = o.fast refl }
 
-pub with_items : (db : Trees) (b : Stored) (x : List rows.ItemRow) → Others 11 db b → IsKeyed rows.item_key rows.item_row (db 11) x → Stands db (record b { items = x })
+pub with_items : (db : Trees) (b : Stored) (x : List rows.ItemRow) → Others 11 db b → IsKeyed rows.item_key rows.item_table_row (db 11) x → Stands db (record b { items = x })
 with_items db b x o h = record { listed = o.listed; meta = o.meta refl; counter = o.counter refl; queue = o.queue refl; change = o.change refl; need = o.need refl; item = h; build = o.build refl; landing = o.landing refl; report = o.report refl; delivery = o.delivery refl; job = o.job refl; fast = o.fast refl }
 
-pub with_builds : (db : Trees) (b : Stored) (x : List Build) → Others 13 db b → IsKeyed rows.build_key rows.build_row (db 13) x → Stands db (record b { builds = x })
+pub with_builds : (db : Trees) (b : Stored) (x : List Build) → Others 13 db b → IsKeyed rows.build_key rows.build_table_row (db 13) x → Stands db (record b { builds = x })
 with_builds db b x o h = record { listed = o.listed; meta = o.meta refl; counter = o.counter refl; queue = o.queue refl; change = o.change refl; need = o.need refl; item = o.item refl; build = h; landing = o.landing refl; report = o.report refl; delivery = o.delivery refl; job = o.job refl; fast = o.fast refl }
 
 pub with_landings : (db : Trees) (b : Stored) (x : List rows.QueueLanding) → Others 14 db b → IsListed rows.landing_columns (db 14) x → Stands db (record b { landings = x })
@@ -97,7 +97,7 @@ with_kept db b x o h = record { listed = o.listed; meta = o.meta refl; counter =
 pub with_jobs : (db : Trees) (b : Stored) (x : List rows.JobRow) → Others 26 db b → IsListed rows.job_columns (db 26) x → Stands db (record b { jobs = x })
 with_jobs db b x o h = record { listed = o.listed; meta = o.meta refl; counter = o.counter refl; queue = o.queue refl; change = o.change refl; need = o.need refl; item = o.item refl; build = o.build refl; landing = o.landing refl; report = o.report refl; delivery = o.delivery refl; job = h; fast = o.fast refl }
 
-pub with_fast : (db : Trees) (b : Stored) (x : List ℕ) → Others 28 db b → IsKeyed rows.fast_key rows.fast_row (db 28) x → Stands db (record b { fast = x })
+pub with_fast : (db : Trees) (b : Stored) (x : List ℕ) → Others 28 db b → IsKeyed rows.fast_key rows.fast_table_row (db 28) x → Stands db (record b { fast = x })
 with_fast db b x o h = record { listed = o.listed; meta = o.meta refl; counter = o.counter refl; queue = o.queue refl; change = o.change refl; need = o.need refl; item = o.item refl; build = o.build refl; landing = o.landing refl; report = o.report refl; delivery = o.delivery refl; job = o.job refl; fast = h }
 
 -- ---- a row more

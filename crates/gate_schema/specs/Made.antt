@@ -41,6 +41,6 @@ abbrev pub MakesOf : List ℕ → Schema → Schema → Type 0
 MakesOf sql s t = MakesTableOf sql s t ⊎ MakesIndexOf sql s t
 
 -- the texts do so in turn
-abbrev pub Leads : List (List ℕ) → Schema → Schema → Type 0
-Leads [] s t = s ≡ t
-Leads (sql ∷ more) s t = (mid : Schema) × MakesOf sql s mid × Leads more mid t
+abbrev pub MakeInTurn : List (List ℕ) → Schema → Schema → Type 0
+MakeInTurn [] s t = s ≡ t
+MakeInTurn (sql ∷ more) s t = (mid : Schema) × MakesOf sql s mid × MakeInTurn more mid t

@@ -130,21 +130,21 @@ counter_columns d =
 abbrev pub queue_columns : QueueRow → Row
 queue_columns q = Words q.name ∷ Int (pos q.place) ∷ Int (pos q.window) ∷ []
 
-abbrev pub change_row : ChangeRow → Row
-change_row c =
+abbrev pub change_table_row : ChangeRow → Row
+change_table_row c =
     Int (pos c.change.number) ∷ Null ∷ Words c.change.project ∷ Int (pos c.change.revision) ∷
     Words (stage_word c.change.stage) ∷ number_or_null c.approval ∷ []
 
 abbrev pub need_columns : NeedRow → Row
 need_columns n = Int (pos n.change) ∷ Int (pos n.place) ∷ Int (pos n.needed) ∷ []
 
-abbrev pub item_row : ItemRow → Row
-item_row i =
+abbrev pub item_table_row : ItemRow → Row
+item_table_row i =
     Int (pos i.item.serial) ∷ Null ∷ Words i.queue ∷ Int (pos i.item.change) ∷ Int (pos i.item.revision) ∷
     number_or_null i.item.ahead ∷ Int (pos (bit i.item.failing)) ∷ []
 
-abbrev pub build_row : Build → Row
-build_row b =
+abbrev pub build_table_row : Build → Row
+build_table_row b =
     Int (pos b.number) ∷ Null ∷ Words b.queue ∷ Int (pos b.serial) ∷ Int (pos b.change) ∷ Int (pos b.revision) ∷
     Words b.job ∷ Int (pos b.after) ∷ Words (ahead_text b.ahead) ∷ Words (outcome_word b.outcome) ∷
     Int (pos (bit b.live)) ∷ []
@@ -166,8 +166,8 @@ kept_columns k = Octets k.id.0 ∷ Words k.said ∷ Words k.reply ∷ []
 abbrev pub job_columns : JobRow → Row
 job_columns j = Int (pos j.serial) ∷ Int (pos j.place) ∷ Words j.job.name ∷ Int (pos (bit j.job.voting)) ∷ []
 
-abbrev pub fast_row : ℕ → Row
-fast_row n = Int (pos n) ∷ Null ∷ []
+abbrev pub fast_table_row : ℕ → Row
+fast_table_row n = Int (pos n) ∷ Null ∷ []
 
 -- ---- tables and lists
 
@@ -196,15 +196,15 @@ pub record Stands (db : Trees) (b : Stored) : Type 0 where
   pub meta : IsFixed (meta_columns b.settings) (db 0)
   pub counter : IsFixed (counter_columns b.counters) (db 2)
   pub queue : IsListed queue_columns (db 4) b.queues
-  pub change : IsKeyed change_key change_row (db 7) b.changes
+  pub change : IsKeyed change_key change_table_row (db 7) b.changes
   pub need : IsListed need_columns (db 9) b.needs
-  pub item : IsKeyed item_key item_row (db 11) b.items
-  pub build : IsKeyed build_key build_row (db 13) b.builds
+  pub item : IsKeyed item_key item_table_row (db 11) b.items
+  pub build : IsKeyed build_key build_table_row (db 13) b.builds
   pub landing : IsListed landing_columns (db 14) b.landings
   pub report : IsListed report_columns (db 18) b.reports
   pub delivery : IsListed kept_columns (db 21) b.kept
   pub job : IsListed job_columns (db 26) b.jobs
-  pub fast : IsKeyed fast_key fast_row (db 28) b.fast
+  pub fast : IsKeyed fast_key fast_table_row (db 28) b.fast
 
 -- ---- within a transaction
 

@@ -77,32 +77,33 @@ index_at name tree table columns =
 -- ---- the tables: each text, and the table that it declares, at a tree
 
 -- what the file is
-abbrev pub meta_text : List ℕ
-meta_text = codes "CREATE TABLE meta (k TEXT PRIMARY KEY NOT NULL, v TEXT NOT NULL) STRICT"
+abbrev pub meta_table_text : List ℕ
+meta_table_text = codes "CREATE TABLE meta (k TEXT PRIMARY KEY NOT NULL, v TEXT NOT NULL) STRICT"
 
-abbrev pub meta_at : ℕ → Table
-meta_at tree =
+abbrev pub meta_table_at : ℕ → Table
+meta_table_at tree =
     table_of (codes "meta") tree
     (column_of (codes "k") Text true ∷ column_of (codes "v") Text true ∷ [])
     None (1 ∷ []) ((1 ∷ []) ∷ []) (plain ∷ []) []
 
 -- the last number drawn of each kind
-abbrev pub counter_text : List ℕ
-counter_text = codes "CREATE TABLE counter (name TEXT PRIMARY KEY NOT NULL, drawn INTEGER NOT NULL CHECK(drawn >= 0)) STRICT"
+abbrev pub counter_table_text : List ℕ
+counter_table_text =
+    codes "CREATE TABLE counter (name TEXT PRIMARY KEY NOT NULL, drawn INTEGER NOT NULL CHECK(drawn >= 0)) STRICT"
 
-abbrev pub counter_at : ℕ → Table
-counter_at tree =
+abbrev pub counter_table_at : ℕ → Table
+counter_table_at tree =
     table_of (codes "counter") tree
     (column_of (codes "name") Text true ∷ column_of (codes "drawn") Integer true ∷ [])
     None (1 ∷ []) ((1 ∷ []) ∷ []) (plain ∷ [])
     (op2 (Compare Ge Binary) (col 1 2) (lit (Int (pos 0))) ∷ [])
 
 -- the queues
-abbrev pub queue_text : List ℕ
-queue_text = codes "CREATE TABLE queue (name TEXT PRIMARY KEY NOT NULL, place INTEGER NOT NULL UNIQUE, win INTEGER NOT NULL) STRICT"
+abbrev pub queue_table_text : List ℕ
+queue_table_text = codes "CREATE TABLE queue (name TEXT PRIMARY KEY NOT NULL, place INTEGER NOT NULL UNIQUE, win INTEGER NOT NULL) STRICT"
 
-abbrev pub queue_at : ℕ → Table
-queue_at tree =
+abbrev pub queue_table_at : ℕ → Table
+queue_table_at tree =
     table_of (codes "queue") tree
     (column_of (codes "name") Text true ∷ column_of (codes "place") Integer true ∷
     column_of (codes "win") Integer true ∷ [])
@@ -110,11 +111,11 @@ queue_at tree =
 
 -- the changes. That approvals differ is a law of the gate, and no key of this table: nearly all are NULL, and a unique
 -- key would walk all of these at each change written, and at each when the file is opened
-abbrev pub change_text : List ℕ
-change_text = codes "CREATE TABLE change (num INTEGER PRIMARY KEY, project TEXT NOT NULL, revision INTEGER NOT NULL, state TEXT NOT NULL CHECK(state IN ('open','landed','closed')), approval INTEGER) STRICT"
+abbrev pub change_table_text : List ℕ
+change_table_text = codes "CREATE TABLE change (num INTEGER PRIMARY KEY, project TEXT NOT NULL, revision INTEGER NOT NULL, state TEXT NOT NULL CHECK(state IN ('open','landed','closed')), approval INTEGER) STRICT"
 
-abbrev pub change_at : ℕ → Table
-change_at tree =
+abbrev pub change_table_at : ℕ → Table
+change_table_at tree =
     table_of (codes "change") tree
     (column_of (codes "num") Integer false ∷ column_of (codes "project") Text true ∷
     column_of (codes "revision") Integer true ∷ column_of (codes "state") Text true ∷
@@ -123,22 +124,22 @@ change_at tree =
     (among (col 1 4) (words (codes "open")) (words (codes "landed")) (words (codes "closed")) ∷ [])
 
 -- what changes need
-abbrev pub need_text : List ℕ
-need_text = codes "CREATE TABLE need (change INTEGER NOT NULL, place INTEGER NOT NULL, needed INTEGER NOT NULL, PRIMARY KEY(change, place)) STRICT"
+abbrev pub need_table_text : List ℕ
+need_table_text = codes "CREATE TABLE need (change INTEGER NOT NULL, place INTEGER NOT NULL, needed INTEGER NOT NULL, PRIMARY KEY(change, place)) STRICT"
 
-abbrev pub need_at : ℕ → Table
-need_at tree =
+abbrev pub need_table_at : ℕ → Table
+need_table_at tree =
     table_of (codes "need") tree
     (column_of (codes "change") Integer true ∷ column_of (codes "place") Integer true ∷
     column_of (codes "needed") Integer true ∷ [])
     None (1 ∷ 2 ∷ []) ((1 ∷ 2 ∷ []) ∷ []) (plain ∷ []) []
 
 -- the items of all queues
-abbrev pub item_text : List ℕ
-item_text = codes "CREATE TABLE item (serial INTEGER PRIMARY KEY, queue TEXT NOT NULL, change INTEGER NOT NULL UNIQUE, revision INTEGER NOT NULL, ahead INTEGER, failing INTEGER NOT NULL CHECK(failing IN (0,1))) STRICT"
+abbrev pub item_table_text : List ℕ
+item_table_text = codes "CREATE TABLE item (serial INTEGER PRIMARY KEY, queue TEXT NOT NULL, change INTEGER NOT NULL UNIQUE, revision INTEGER NOT NULL, ahead INTEGER, failing INTEGER NOT NULL CHECK(failing IN (0,1))) STRICT"
 
-abbrev pub item_at : ℕ → Table
-item_at tree =
+abbrev pub item_table_at : ℕ → Table
+item_table_at tree =
     table_of (codes "item") tree
     (column_of (codes "serial") Integer false ∷ column_of (codes "queue") Text true ∷
     column_of (codes "change") Integer true ∷ column_of (codes "revision") Integer true ∷
@@ -146,11 +147,11 @@ item_at tree =
     (Some 0) (0 ∷ []) ((3 ∷ []) ∷ []) (plain ∷ []) (zero_one (col 1 6) ∷ [])
 
 -- the builds
-abbrev pub build_text : List ℕ
-build_text = codes "CREATE TABLE build (num INTEGER PRIMARY KEY, queue TEXT NOT NULL, serial INTEGER NOT NULL, change INTEGER NOT NULL, revision INTEGER NOT NULL, job TEXT NOT NULL, base INTEGER NOT NULL, ahead TEXT NOT NULL, outcome TEXT NOT NULL CHECK(outcome IN ('running','success','failure','lost')), live INTEGER NOT NULL CHECK(live IN (0,1))) STRICT"
+abbrev pub build_table_text : List ℕ
+build_table_text = codes "CREATE TABLE build (num INTEGER PRIMARY KEY, queue TEXT NOT NULL, serial INTEGER NOT NULL, change INTEGER NOT NULL, revision INTEGER NOT NULL, job TEXT NOT NULL, base INTEGER NOT NULL, ahead TEXT NOT NULL, outcome TEXT NOT NULL CHECK(outcome IN ('running','success','failure','lost')), live INTEGER NOT NULL CHECK(live IN (0,1))) STRICT"
 
-abbrev pub build_at : ℕ → Table
-build_at tree =
+abbrev pub build_table_at : ℕ → Table
+build_table_at tree =
     table_of (codes "build") tree
     (column_of (codes "num") Integer false ∷ column_of (codes "queue") Text true ∷
     column_of (codes "serial") Integer true ∷ column_of (codes "change") Integer true ∷
@@ -158,15 +159,15 @@ build_at tree =
     column_of (codes "base") Integer true ∷ column_of (codes "ahead") Text true ∷
     column_of (codes "outcome") Text true ∷ column_of (codes "live") Integer true ∷ [])
     (Some 0) (0 ∷ []) [] []
-    (among4 (col 1 9) (words (codes "running")) (words (codes "success")) (words (codes "failure")) (words (codes "lost")) ∷
-    zero_one (col 1 10) ∷ [])
+    (among4 (col 1 9) (words (codes "running")) (words (codes "success")) (words (codes "failure"))
+    (words (codes "lost")) ∷ zero_one (col 1 10) ∷ [])
 
 -- what landed
-abbrev pub landing_text : List ℕ
-landing_text = codes "CREATE TABLE landing (queue TEXT NOT NULL, n INTEGER NOT NULL, serial INTEGER NOT NULL UNIQUE, change INTEGER NOT NULL UNIQUE, revision INTEGER NOT NULL, PRIMARY KEY(queue, n)) STRICT"
+abbrev pub landing_table_text : List ℕ
+landing_table_text = codes "CREATE TABLE landing (queue TEXT NOT NULL, n INTEGER NOT NULL, serial INTEGER NOT NULL UNIQUE, change INTEGER NOT NULL UNIQUE, revision INTEGER NOT NULL, PRIMARY KEY(queue, n)) STRICT"
 
-abbrev pub landing_at : ℕ → Table
-landing_at tree =
+abbrev pub landing_table_at : ℕ → Table
+landing_table_at tree =
     table_of (codes "landing") tree
     (column_of (codes "queue") Text true ∷ column_of (codes "n") Integer true ∷
     column_of (codes "serial") Integer true ∷ column_of (codes "change") Integer true ∷
@@ -174,11 +175,11 @@ landing_at tree =
     None (1 ∷ 2 ∷ []) ((3 ∷ []) ∷ (4 ∷ []) ∷ (1 ∷ 2 ∷ []) ∷ []) (plain ∷ plain ∷ plain ∷ []) []
 
 -- what left a queue, and why
-abbrev pub report_text : List ℕ
-report_text = codes "CREATE TABLE report (queue TEXT NOT NULL, place INTEGER NOT NULL, serial INTEGER NOT NULL UNIQUE, change INTEGER NOT NULL, revision INTEGER NOT NULL, verdict TEXT NOT NULL, n INTEGER, PRIMARY KEY(queue, place)) STRICT"
+abbrev pub report_table_text : List ℕ
+report_table_text = codes "CREATE TABLE report (queue TEXT NOT NULL, place INTEGER NOT NULL, serial INTEGER NOT NULL UNIQUE, change INTEGER NOT NULL, revision INTEGER NOT NULL, verdict TEXT NOT NULL, n INTEGER, PRIMARY KEY(queue, place)) STRICT"
 
-abbrev pub report_at : ℕ → Table
-report_at tree =
+abbrev pub report_table_at : ℕ → Table
+report_table_at tree =
     table_of (codes "report") tree
     (column_of (codes "queue") Text true ∷ column_of (codes "place") Integer true ∷
     column_of (codes "serial") Integer true ∷ column_of (codes "change") Integer true ∷
@@ -187,33 +188,34 @@ report_at tree =
     None (1 ∷ 2 ∷ []) ((3 ∷ []) ∷ (1 ∷ 2 ∷ []) ∷ []) (plain ∷ plain ∷ []) []
 
 -- the accepted deliveries
-abbrev pub delivery_text : List ℕ
-delivery_text = codes "CREATE TABLE delivery (id BLOB PRIMARY KEY NOT NULL, said TEXT NOT NULL, reply TEXT NOT NULL) STRICT"
+abbrev pub delivery_table_text : List ℕ
+delivery_table_text =
+    codes "CREATE TABLE delivery (id BLOB PRIMARY KEY NOT NULL, said TEXT NOT NULL, reply TEXT NOT NULL) STRICT"
 
-abbrev pub delivery_at : ℕ → Table
-delivery_at tree =
+abbrev pub delivery_table_at : ℕ → Table
+delivery_table_at tree =
     table_of (codes "delivery") tree
     (column_of (codes "id") Blob true ∷ column_of (codes "said") Text true ∷
     column_of (codes "reply") Text true ∷ [])
     None (1 ∷ []) ((1 ∷ []) ∷ []) (plain ∷ []) []
 
 -- the jobs of items and landings
-abbrev pub item_job_text : List ℕ
-item_job_text = codes "CREATE TABLE item_job (serial INTEGER NOT NULL, place INTEGER NOT NULL, name TEXT NOT NULL, voting INTEGER NOT NULL CHECK(voting IN (0,1)), PRIMARY KEY(serial, place)) STRICT"
+abbrev pub item_job_table_text : List ℕ
+item_job_table_text = codes "CREATE TABLE item_job (serial INTEGER NOT NULL, place INTEGER NOT NULL, name TEXT NOT NULL, voting INTEGER NOT NULL CHECK(voting IN (0,1)), PRIMARY KEY(serial, place)) STRICT"
 
-abbrev pub item_job_at : ℕ → Table
-item_job_at tree =
+abbrev pub item_job_table_at : ℕ → Table
+item_job_table_at tree =
     table_of (codes "item_job") tree
     (column_of (codes "serial") Integer true ∷ column_of (codes "place") Integer true ∷
     column_of (codes "name") Text true ∷ column_of (codes "voting") Integer true ∷ [])
     None (1 ∷ 2 ∷ []) ((1 ∷ 2 ∷ []) ∷ []) (plain ∷ []) (zero_one (col 1 4) ∷ [])
 
 -- the items that fail fast
-abbrev pub item_fast_text : List ℕ
-item_fast_text = codes "CREATE TABLE item_fast (serial INTEGER PRIMARY KEY) STRICT"
+abbrev pub item_fast_table_text : List ℕ
+item_fast_table_text = codes "CREATE TABLE item_fast (serial INTEGER PRIMARY KEY) STRICT"
 
-abbrev pub item_fast_at : ℕ → Table
-item_fast_at tree =
+abbrev pub item_fast_table_at : ℕ → Table
+item_fast_table_at tree =
     table_of (codes "item_fast") tree (column_of (codes "serial") Integer false ∷ [])
     (Some 0) (0 ∷ []) [] [] []
 
@@ -238,8 +240,9 @@ build_serial_text = codes "CREATE INDEX build_serial ON build(serial)"
 -- two were made behind these, so that a file has the same trees whether it began with them or got them later
 abbrev pub gate_tables : List Table
 gate_tables =
-    meta_at 0 ∷ counter_at 2 ∷ queue_at 4 ∷ change_at 7 ∷ need_at 9 ∷ item_at 11 ∷ build_at 13 ∷ landing_at 14 ∷
-    report_at 18 ∷ delivery_at 21 ∷ item_job_at 26 ∷ item_fast_at 28 ∷ []
+    meta_table_at 0 ∷ counter_table_at 2 ∷ queue_table_at 4 ∷ change_table_at 7 ∷ need_table_at 9 ∷ item_table_at 11 ∷
+    build_table_at 13 ∷ landing_table_at 14 ∷ report_table_at 18 ∷ delivery_table_at 21 ∷ item_job_table_at 26 ∷
+    item_fast_table_at 28 ∷ []
 
 abbrev pub gate_indexes : List Index
 gate_indexes =
@@ -264,7 +267,8 @@ gate_indexes =
 
 -- the schema with the first tables, and as many indexes
 abbrev pub schema_with : ℕ → ℕ → Schema
-schema_with tables indexes = record { tables = take tables gate_tables; indexes = take indexes gate_indexes; views = [] }
+schema_with tables indexes =
+    record { tables = take tables gate_tables; indexes = take indexes gate_indexes; views = [] }
 
 abbrev pub gate_schema : Schema
 gate_schema = record { tables = gate_tables; indexes = gate_indexes; views = [] }
@@ -272,6 +276,7 @@ gate_schema = record { tables = gate_tables; indexes = gate_indexes; views = [] 
 -- the texts that make it, in turn
 abbrev pub gate_texts : List (List ℕ)
 gate_texts =
-    meta_text ∷ counter_text ∷ queue_text ∷ change_text ∷ change_approval_text ∷ need_text ∷ item_text ∷ build_text ∷
-    landing_text ∷ report_text ∷ delivery_text ∷ need_needed_text ∷ item_queue_text ∷ build_serial_text ∷
-    item_job_text ∷ item_fast_text ∷ []
+    meta_table_text ∷ counter_table_text ∷ queue_table_text ∷ change_table_text ∷ change_approval_text ∷
+    need_table_text ∷ item_table_text ∷ build_table_text ∷ landing_table_text ∷ report_table_text ∷
+    delivery_table_text ∷ need_needed_text ∷ item_queue_text ∷ build_serial_text ∷ item_job_table_text ∷
+    item_fast_table_text ∷ []

@@ -15,8 +15,8 @@ ghost use Rattle.gate_table_laws.specs.Held.{HoldsFor};
 ghost use Rattle.gate_sql.specs.Handed.{names_of};
 ghost use Rattle.gate_sql.specs.Refused.{IsRefused};
 ghost use Rattle.gate_file_meta.specs.Opens.{IsJudged, IsMeta, with_meta};
-ghost use Rattle.gate_file_changes.specs.Adopts.{IsKept};
-ghost use Rattle.gate_file_meta.specs.Reading.{HasNoMeta, HasNoneToAdopt, HoldsMeta, IsTold, IsUnread, ShowsMeta};
+ghost use Rattle.gate_file_changes.specs.Adopts.{StandsForLawful};
+ghost use Rattle.gate_file_meta.specs.Reading.{HasNoMeta, HasNoneToAdopt, HoldsMeta, IsJudgedOf, IsUnread, ShowsMeta};
 
 use crate::book::{SqlBook, texts_of};
 use gate_file_changes::adopt;
@@ -50,16 +50,16 @@ impl<S: Alter> SqlBook<S> {
             IfOk result (λ book. HasCleanDisk (state S.Store book.conn) → (db : Trees) →
             S.Store.recovers book.conn.store db → StandsFor db config.now x) }
         ensures adopts { IsTrue (state S.Store conn).is_open → (c : Settings) (x : Content) →
-            IsKept (state S.Store conn).now.trees c x → may_adopt c config.now ≡ true → MatchResult result
+            StandsForLawful (state S.Store conn).now.trees c x → may_adopt c config.now ≡ true → MatchResult result
             (λ book. HasCleanDisk (state S.Store book.conn) →
             HoldsFor (state S.Store book.conn) (names_of book) config.now (adopted_content c config.now x))
             (λ e. HasCleanDisk (state S.Store e.1) → e.0 ≡ OpenFault.Unavailable) }
         ensures adopted { IsTrue (state S.Store conn).is_open → (c : Settings) (x : Content) →
-            IsKept (state S.Store conn).now.trees c x → may_adopt c config.now ≡ true →
+            StandsForLawful (state S.Store conn).now.trees c x → may_adopt c config.now ≡ true →
             IfOk result (λ book. HasCleanDisk (state S.Store book.conn) → (db : Trees) →
             S.Store.recovers book.conn.store db → StandsFor db config.now (adopted_content c config.now x)) }
         ensures refuses { IsTrue (state S.Store conn).is_open → (c : Settings) (x : Content) →
-            IsKept (state S.Store conn).now.trees c x → may_adopt c config.now ≡ false → MatchResult result
+            StandsForLawful (state S.Store conn).now.trees c x → may_adopt c config.now ≡ false → MatchResult result
             (λ book. HasCleanDisk (state S.Store book.conn) → ⊥)
             (λ e. HasCleanDisk (state S.Store e.1) →
             (e.0 ≡ OpenFault.OtherSettings) ⊎ (e.0 ≡ OpenFault.Unavailable)) }
@@ -68,11 +68,11 @@ impl<S: Alter> SqlBook<S> {
             IsMeta (state S.Store conn).now.trees version kept → HasCleanDisk (handed S.Store result) →
             IsJudged (answered result) version kept config.now }
         ensures told { HasCleanDisk (handed S.Store result) →
-            IsTold (answered result) (ShowsMeta (state S.Store conn).now) config.now }
+            IsJudgedOf (answered result) (ShowsMeta (state S.Store conn).now) config.now }
         ensures held { (tables : _) (indexes : _) (views : _) →
             (state S.Store conn).now.schema ≡ with_meta tables indexes views →
             HasCleanDisk (handed S.Store result) →
-            IsTold (answered result) (HoldsMeta (state S.Store conn).now.trees) config.now }
+            IsJudgedOf (answered result) (HoldsMeta (state S.Store conn).now.trees) config.now }
         ensures unread { HasNoMeta (state S.Store conn).now.schema → HasCleanDisk (handed S.Store result) →
             IsUnread (answered result) }
         ensures none { IfErr result (λ e. HasCleanDisk (state S.Store e.1) →
@@ -85,11 +85,11 @@ impl<S: Alter> SqlBook<S> {
             StandsFor (state S.Store conn).now.trees config.now x → HasCleanDisk (handed S.Store result) →
             LeavesNothing (state S.Store conn) (handed S.Store result) }
         ensures refused { (c : Settings) (x : Content) → (state S.Store conn).now.schema ≡ gate_schema →
-            IsKept (state S.Store conn).now.trees c x → may_adopt c config.now ≡ false →
+            StandsForLawful (state S.Store conn).now.trees c x → may_adopt c config.now ≡ false →
             HasCleanDisk (handed S.Store result) →
             LeavesNothing (state S.Store conn) (handed S.Store result) }
         ensures leaves { (c : Settings) (x : Content) → (state S.Store conn).now.schema ≡ gate_schema →
-            IsKept (state S.Store conn).now.trees c x → may_adopt c config.now ≡ true →
+            StandsForLawful (state S.Store conn).now.trees c x → may_adopt c config.now ≡ true →
             HasCleanDisk (handed S.Store result) → (db : Trees) → (handed S.Store result).may_leave db →
             (state S.Store conn).may_leave db ⊎ StandsFor db config.now (adopted_content c config.now x) }
         ensures clean { HasCleanDisk (handed S.Store result) → HasCleanDisk (state S.Store conn) }

@@ -9,7 +9,7 @@ ghost use Rattle.gate_types.specs.Adopt.{may_adopt, adopted_content};
 ghost use Rattle.gate_types.specs.Once.{Content};
 ghost use Rattle.gate_types.specs.Settings.{Settings};
 ghost use Rattle.gate_rows.specs.Matches.{StandsFor};
-ghost use Rattle.gate_file_changes.specs.Adopts.{IsKept};
+ghost use Rattle.gate_file_changes.specs.Adopts.{StandsForLawful};
 ghost use Rattle.gate_table_laws.specs.Held.{HoldsFor, HoldsForOne, StandsForOne};
 ghost use Rattle.gate_sql.specs.Handed.{names_of};
 ghost use Rattle.gate_file_meta.specs.Reading.{IsToldOf};
@@ -40,15 +40,15 @@ impl<S: Alter + Drop> SqlBook<S> {
             StandsForOne (S.Store.view store).trees config.now xs → (db : Trees) →
             S.Store.recovers book.conn.store db → StandsForOne db config.now xs) }
         ensures adopts { IfOk result (λ book. HasCleanDisk (state S.Store book.conn) → (c : Settings) (x : Content) →
-            IsKept (S.Store.view store).trees c x → may_adopt c config.now ≡ true →
+            StandsForLawful (S.Store.view store).trees c x → may_adopt c config.now ≡ true →
             HoldsFor (state S.Store book.conn) (names_of book) config.now (adopted_content c config.now x)) }
         ensures adopted { IfOk result (λ book. HasCleanDisk (state S.Store book.conn) → (c : Settings) (x : Content) →
-            IsKept (S.Store.view store).trees c x → may_adopt c config.now ≡ true → (db : Trees) →
+            StandsForLawful (S.Store.view store).trees c x → may_adopt c config.now ≡ true → (db : Trees) →
             S.Store.recovers book.conn.store db → StandsFor db config.now (adopted_content c config.now x)) }
-        ensures refuses { (c : Settings) (x : Content) → IsKept (S.Store.view store).trees c x →
+        ensures refuses { (c : Settings) (x : Content) → StandsForLawful (S.Store.view store).trees c x →
             may_adopt c config.now ≡ false → MatchResult result (λ book. HasCleanDisk (state S.Store book.conn) → ⊥)
             (λ e. IsClean (S.Store.view e.1) → (e.0 ≡ OpenFault.OtherSettings) ⊎ (e.0 ≡ OpenFault.Unavailable)) }
-        ensures may_fault { (c : Settings) (x : Content) → IsKept (S.Store.view store).trees c x →
+        ensures may_fault { (c : Settings) (x : Content) → StandsForLawful (S.Store.view store).trees c x →
             may_adopt c config.now ≡ true →
             IfErr result (λ e. IsClean (S.Store.view e.1) → e.0 ≡ OpenFault.Unavailable) }
         ensures told { IfOk result (λ book. HasCleanDisk (state S.Store book.conn) →

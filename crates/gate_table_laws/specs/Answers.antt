@@ -16,27 +16,27 @@ pub record IsAnsweredBy (b : Stored) (c : Settings) (x : Content) : Type 0 where
   -- the items of a queue, front to back
   pub items : (name : List ℕ) → items_of name b.items ≡ content.items_in c x.state name
   -- the item of a serial
-  pub item : (serial : ℕ) → file.item_at b serial ≡ content.item_at c x.state serial
+  pub item : (serial : ℕ) → file.stored_item_at b serial ≡ content.item_at c x.state serial
   -- the item of a change, with its queue's name
-  pub queued : (n : ℕ) → file.queued_of b n ≡ content.queued_of c x.state n
+  pub queued : (n : ℕ) → file.stored_queued_of b n ≡ content.queued_of c x.state n
   -- the items of a queue above a serial whose changes need another
-  pub needing : (name : List ℕ) (n serial : ℕ) →
-      file.items_needing b name n serial ≡ content.items_needing x.state n serial (content.items_in c x.state name)
+  pub needing : (name : List ℕ) (n serial : ℕ) → file.stored_items_needing b name n serial ≡
+      content.items_needing x.state n serial (content.items_in c x.state name)
   -- what is known of a change
-  pub change : (n : ℕ) → file.known_change b n ≡ known_change x.state n
+  pub change : (n : ℕ) → file.stored_change b n ≡ known_change x.state n
   -- the number of a change's approval, while it is ready
-  pub approval : (n : ℕ) → file.approval_of b n ≡ approval_of x.state.ready n
+  pub approval : (n : ℕ) → file.stored_approval_of b n ≡ approval_of x.state.ready n
   -- the changes that are ready, in order of approval
   pub ready : (found : List Ready) → file.AreReady b found → found ≡ x.state.ready
   -- those of them that need another
   pub ready_needing : (n : ℕ) (found : List Ready) → file.AreReadyNeeding b n found →
       found ≡ content.ready_needing x.state n
   -- the build of a number
-  pub build : (n : ℕ) → file.build_of b n ≡ build_of x.state n
+  pub build : (n : ℕ) → file.stored_build_of b n ≡ build_of x.state n
   -- the plan under a serial
-  pub plan : (serial : ℕ) → file.plan_at b serial ≡ content.plan_at x.state serial
+  pub plan : (serial : ℕ) → file.stored_plan_at b serial ≡ content.plan_at x.state serial
   -- the live builds of a serial
-  pub live_builds : (serial : ℕ) → file.live_builds b serial ≡ content.live_builds x.state serial
+  pub live_builds : (serial : ℕ) → file.stored_live_builds b serial ≡ content.live_builds x.state serial
   -- the plans of the items of a queue above one serial, up to another
   pub plans_between : (name : List ℕ) (above last : ℕ) → file.plans_between b name above last ≡
       content.plans_of_items x.state (content.items_between above last (content.items_in c x.state name))
@@ -44,7 +44,7 @@ pub record IsAnsweredBy (b : Stored) (c : Settings) (x : Content) : Type 0 where
   pub builds_between : (name : List ℕ) (above last : ℕ) → file.builds_between b name above last ≡
       content.builds_of_items x.state (content.items_between above last (content.items_in c x.state name))
   -- the window of a queue
-  pub window : (name : List ℕ) → file.window_of b name ≡ content.window_of x.state name
+  pub window : (name : List ℕ) → file.stored_window_of b name ≡ content.window_of x.state name
   -- how many landings it has
   pub landing_count : (name : List ℕ) → file.last_landing b name ≡ content.landing_count x.state name
   -- how many reports a queue has made

@@ -1,4 +1,4 @@
-//! What is true of the tables of a content: each function proves one law, by its contract, and does nothing when it runs.
+//! What is true of the tables of a content: each function proves one law, by its contract, and does nothing when run.
 ghost use Rattle.gate_types.specs.Forms.{IsLawfulContent};
 ghost use Rattle.gate_types.specs.Once.{Content};
 ghost use Rattle.gate_types.specs.Settings.{Settings};

@@ -16,14 +16,14 @@ use Rattle.gate_types.specs.Rebase.{with_live}
 use Rattle.gate_types.specs.Window.{Bounds, shrink, bounds_of}
 
 -- failing but not blocked, no non-failing item before it, and nothing left to wait for
-abbrev pub has_failed : List Build → Place → Bool
-has_failed builds p = is_failing builds p && not (is_blocked p) && length p.ahead == 0 && are_finished builds p
+abbrev pub fails_for_good : List Build → Place → Bool
+fails_for_good builds p = is_failing builds p && not (is_blocked p) && length p.ahead == 0 && are_finished builds p
 
 -- an item goes if a need has neither landed nor is an item before it that stays, or if it has failed
 abbrev pub verdict_of : List Build → List Item → Place → Option Verdict
 verdict_of builds staying p =
     if not (are_met_by staying p.needs) then Some verdict.Needs else (
-    if has_failed builds p then Some verdict.Failed else None)
+    if fails_for_good builds p then Some verdict.Failed else None)
 
 -- an item, and why it goes, if it goes
 pub record Judged : Type 0 where

@@ -15,7 +15,7 @@ use Rattle.gate_types.specs.State.{Item, has_change}
 use Rattle.gate_types.specs.Line.{Place}
 use Rattle.gate_types.specs.Slot.{are_met_by, is_running, is_cut, raw_slot_of, is_failed_slot}
 use Rattle.gate_types.specs.Standing.{is_failing, with_ahead, next_ahead, places_after}
-use Rattle.gate_types.specs.Sweep.{verdict_of, has_failed, judge, next_staying}
+use Rattle.gate_types.specs.Sweep.{verdict_of, fails_for_good, judge, next_staying}
 use Rattle.gate_types.specs.Rows.{row_of}
 use Rattle.gate_queue_rules.specs.Edits.{next_reports, window_behind}
 use Rattle.gate_queue_rules.specs.Outcomes.{slot_among}
@@ -141,7 +141,7 @@ goes stand bs before staying k p kn f q g =
       fails_now = ap (λ t. t || list_any (λ j. j.voting && is_failed_slot (slot_among (still_counting k v) j)) v.jobs) (blocked_seen stand k.marks k.gone before p.ahead staying p.needs kn met ∙ ap not blocked);
       was_failing = ap (λ t. not t || list_any (λ j. j.voting && is_failed_slot (raw_slot_of bs p j)) p.jobs) blocked;
       by_walk = ap (λ t. cond (not t) (Some verdict.Needs) (cond (is_out k v) (Some verdict.Failed) None)) (met_seen stand k.marks k.gone before p.ahead staying p.needs kn met ∙ unmet);
-      by_look = ap (λ t. cond (not t) (Some verdict.Needs) (cond (has_failed bs p) (Some verdict.Failed) None)) unmet;
+      by_look = ap (λ t. cond (not t) (Some verdict.Needs) (cond (fails_for_good bs p) (Some verdict.Failed) None)) unmet;
     }
 
 -- its edits, whatever is carried as the last non-failing item

@@ -18,7 +18,7 @@ use Rattle.gate_types.specs.State.{Item, has_change}
 use Rattle.gate_types.specs.Line.{Place}
 use Rattle.gate_types.specs.Slot.{are_met_by, counts, is_running, is_cut}
 use Rattle.gate_types.specs.Standing.{is_failing, with_ahead, next_ahead, places_after}
-use Rattle.gate_types.specs.Sweep.{verdict_of, has_failed, judge, next_staying}
+use Rattle.gate_types.specs.Sweep.{verdict_of, fails_for_good, judge, next_staying}
 use Rattle.gate_types.specs.Rows.{row_of}
 use Rattle.gate_queue_rules.specs.Edits.{stops, next_reports, window_behind}
 use Rattle.gate_walk.specs.Walk.{Seen, Mark, Carry, fails, verdict_by, window_edits_by, visit_edits, carried, asks_for}
@@ -75,8 +75,8 @@ last_next : (xs : List Item) (i : Item) (a : Option ℕ) (f : Bool) → a ≡ la
 last_next xs i a true e = e
 last_next xs i a false e = sym (last_push xs i)
 
-pub none_parts : (bs : List Build) (staying : List Item) (p : Place) → verdict_of bs staying p ≡ None → (are_met_by staying p.needs ≡ true) × (has_failed bs p ≡ false)
-none_parts bs staying p h = by_both (are_met_by staying p.needs) (has_failed bs p) h
+pub none_parts : (bs : List Build) (staying : List Item) (p : Place) → verdict_of bs staying p ≡ None → (are_met_by staying p.needs ≡ true) × (fails_for_good bs p ≡ false)
+none_parts bs staying p h = by_both (are_met_by staying p.needs) (fails_for_good bs p) h
   where
     some_none : {X : Type 0} (x : X) → Some x ≡ None → ⊥
     some_none x e = true≢false (ap is_some e)
@@ -86,7 +86,7 @@ none_parts bs staying p h = by_both (are_met_by staying p.needs) (has_failed bs 
     by_both true true e = absurd (some_none verdict.Failed e)
     by_both true false e = (refl, refl)
 
-pub none_from : (bs : List Build) (staying : List Item) (p : Place) → are_met_by staying p.needs ≡ true → has_failed bs p ≡ false → verdict_of bs staying p ≡ None
+pub none_from : (bs : List Build) (staying : List Item) (p : Place) → are_met_by staying p.needs ≡ true → fails_for_good bs p ≡ false → verdict_of bs staying p ≡ None
 none_from bs staying p m f = λ k. cond (not (m k)) (Some verdict.Needs) (cond (f k) (Some verdict.Failed) None)
 
 -- ---- where the line has changed

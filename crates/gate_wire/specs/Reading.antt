@@ -45,8 +45,8 @@ abbrev pub text_at : List ℕ → Data → Option (List ℕ)
 text_at name d = option_and_then as_str (get name d)
 
 -- a whole number from 1 to the highest
-abbrev pub number_up_to : ℕ → List ℕ → Data → Result ℕ Refusal
-number_up_to highest name d = or_bad (whole_at name d) >>= λ n. or_bad (passing (λ n. nat_le 1 n && nat_le n highest) n)
+abbrev pub whole_up_to : ℕ → List ℕ → Data → Result ℕ Refusal
+whole_up_to highest name d = or_bad (whole_at name d) >>= λ n. or_bad (passing (λ n. nat_le 1 n && nat_le n highest) n)
 
 -- a text that passes a test
 abbrev pub text_of_form : (List ℕ → Bool) → List ℕ → Data → Result (List ℕ) Refusal
@@ -58,19 +58,19 @@ id_at d = or_bad (text_at (codes "id") d) >>= λ s. or_bad (parsed s) >>= λ byt
 
 -- the change: 1 to 999,999,999
 unfoldable pub change_at : Data → Result ℕ Refusal
-change_at d = number_up_to 999999999 (codes "change") d
+change_at d = whole_up_to 999999999 (codes "change") d
 
 -- the revision: 1 to 9,999
 unfoldable pub revision_at : Data → Result ℕ Refusal
-revision_at d = number_up_to 9999 (codes "revision") d
+revision_at d = whole_up_to 9999 (codes "revision") d
 
 -- the order: 1 to 10^15
 unfoldable pub order_at : Data → Result ℕ Refusal
-order_at d = number_up_to last_number (codes "order") d
+order_at d = whole_up_to last_number (codes "order") d
 
 -- the build: 1 to 10^15
 unfoldable pub build_at : Data → Result ℕ Refusal
-build_at d = number_up_to last_number (codes "build") d
+build_at d = whole_up_to last_number (codes "build") d
 
 -- the project, by the form of its name
 unfoldable pub project_at : Data → Result (List ℕ) Refusal
@@ -97,8 +97,8 @@ unfoldable pub ending_at : Data → Result Ending Refusal
 ending_at d = or_bad (text_at (codes "outcome") d) >>= λ word. or_bad (ending_named word)
 
 -- what is said of a change at a revision
-abbrev pub on_change : (ℕ → ℕ → Delivery) → Data → Result Delivery Refusal
-on_change made d = change_at d >>= λ change. revision_at d >>= λ revision. Ok (made change revision)
+abbrev pub at_revision : (ℕ → ℕ → Delivery) → Data → Result Delivery Refusal
+at_revision made d = change_at d >>= λ change. revision_at d >>= λ revision. Ok (made change revision)
 
 -- a revision
 abbrev pub revision_said : Data → Result Delivery Refusal
@@ -109,9 +109,9 @@ revision_said d =
 -- the delivery of a kind
 unfoldable pub delivery_at : Kind → Data → Result Delivery Refusal
 delivery_at kind.Revision d = revision_said d
-delivery_at kind.Approved d = on_change delivery.Approved d
-delivery_at kind.Withdrawn d = on_change delivery.Withdrawn d
-delivery_at kind.Closed d = on_change delivery.Closed d
+delivery_at kind.Approved d = at_revision delivery.Approved d
+delivery_at kind.Withdrawn d = at_revision delivery.Withdrawn d
+delivery_at kind.Closed d = at_revision delivery.Closed d
 delivery_at kind.Landed d = order_at d >>= λ order. Ok (delivery.Landed order)
 delivery_at kind.Refused d = order_at d >>= λ order. Ok (delivery.Refused order)
 delivery_at kind.Take d = worker_at d >>= λ worker. Ok (delivery.Take worker)
@@ -122,13 +122,14 @@ unfoldable pub kind_at : Data → Result Kind Refusal
 kind_at d = or_bad (text_at (codes "kind") d) >>= λ word. or_bad (kind_named word)
 
 -- a kind that the door is open to
-abbrev pub through : Door → Kind → Result Kind Refusal
-through door k = if opens_to door k then Ok k else Err refusal.WrongDoor
+abbrev pub through_door : Door → Kind → Result Kind Refusal
+through_door door k = if opens_to door k then Ok k else Err refusal.WrongDoor
 
 -- the id and the delivery that a value says: the id and the kind come first, then the door, then the other members
 unfoldable pub data_says : Door → Data → Result (Id × Delivery) Refusal
 data_says door d =
-    id_at d >>= λ id. kind_at d >>= λ said. through door said >>= λ k. delivery_at k d >>= λ delivery. Ok (id, delivery)
+    id_at d >>= λ id. kind_at d >>= λ said. through_door door said >>= λ k. delivery_at k d >>= λ delivery.
+    Ok (id, delivery)
 
 -- what a value says, or that the bytes are no JSON
 abbrev pub read_or_bad : Door → Option Data → Result (Id × Delivery) Refusal

@@ -21,14 +21,15 @@ use Rattle.gate_http.specs.declared.request_fault.RequestFault.TheVariants as re
 use Rattle.gate_http.specs.declared.served.Served.{Served}
 use Rattle.gate_http.specs.declared.served.Served.TheVariants.{Answered}
 use Rattle.gated_cli.specs.Faults.{of_feed}
-use Rattle.gated_cli.specs.Showing.{LeavesAsBefore, LeavesLines, OfLines, behind_named, cursor, lines_behind, lines_told, most_told}
+use Rattle.gated_cli.specs.Showing.{LeavesAsBefore, LeavesLines, OfLinesTold, behind_named, cursor, lines_behind}
+use Rattle.gated_cli.specs.Showing.{lines_told, most_told}
 use Rattle.gated_cli.specs.declared.run.fault.Fault.{Fault}
 use Rattle.gated_cli.specs.declared.run.fault.Fault.TheVariants as fault
 
 -- lines of deliveries that are written
 lines_are : (kept : List Kept) (after : Option Id) (Takes : List Kept → List ℕ → Type 0) (P : List ℕ → Type 0)
     → ((told : List Kept) → (text : List ℕ) → Takes told text → P text) → OfFeed kept after most_told [] Takes
-    → OfLines (option_map feed_lines (fed after most_told kept)) P
+    → OfLinesTold (option_map feed_lines (fed after most_told kept)) P
 lines_are kept after Takes P gives of = record {
   lines = feed_lines of.told;
   are = ap (option_map feed_lines) of.are;

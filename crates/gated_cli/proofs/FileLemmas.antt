@@ -17,7 +17,7 @@ use Rattle.gate_core.specs.declared.fault.ReplayFault.TheVariants as replay
 use Rattle.gate_live.specs.Both.{HoldsBoth}
 use Rattle.gate_live.specs.declared.live_book.LiveBook.{LiveBook}
 use Rattle.gate_rows.specs.Matches.{StandsFor}
-use Rattle.gate_file_changes.specs.Adopts.{IsKept}
+use Rattle.gate_file_changes.specs.Adopts.{StandsForLawful}
 use Rattle.gate_table_laws.specs.Held.{LeavesFor, ShowsFor}
 use Rattle.gated_cli.specs.Doing.{Announces, Delivers, Streams}
 use Rattle.gated_cli.specs.Ending.{AnnouncementIsCut, DeliveryEnds, DeliveryIsCut, DeliveryStops, IsOfFile}
@@ -82,7 +82,7 @@ is_lawful s c g stays (inr other) =
 -- and what holds both of what the tables stand for and of what it becomes holds of it
 pub opens_to : (Holds : Content → Type 0) (s : State) (c : Settings) (g : Gated) →
     (IsTrue s.is_open → (x : Content) → StandsFor s.now.trees c x → Holds x) →
-    (IsTrue s.is_open → (k : Settings) (x : Content) → IsKept s.now.trees k x → may_adopt k c ≡ true → Holds (adopted_content k c x)) →
+    (IsTrue s.is_open → (k : Settings) (x : Content) → StandsForLawful s.now.trees k x → may_adopt k c ≡ true → Holds (adopted_content k c x)) →
     OpensTo s c g → Holds g.content
 opens_to Holds s c g opens adopts (inl file) = opens file.up g.content file.stands
 opens_to Holds s c g opens adopts (inr other) = subst Holds (sym other.becomes) (adopts other.up other.kept other.before other.keeps other.may)
@@ -90,7 +90,7 @@ opens_to Holds s c g opens adopts (inr other) = subst Holds (sym other.becomes) 
 -- if a file was just opened, a crash leaves the content of its gate
 pub opened_leaves : (s new : State) (c : Settings) (g : Gated) →
     (IsTrue s.is_open → (x : Content) → StandsFor s.now.trees c x → (db : Trees) → new.may_leave db → StandsFor db c x) →
-    (IsTrue s.is_open → (k : Settings) (x : Content) → IsKept s.now.trees k x → may_adopt k c ≡ true →
+    (IsTrue s.is_open → (k : Settings) (x : Content) → StandsForLawful s.now.trees k x → may_adopt k c ≡ true →
     (db : Trees) → new.may_leave db → StandsFor db c (adopted_content k c x)) →
     OpensTo s c g → LeavesFor new c (g.content ∷ [])
 opened_leaves s new c g settled adopted file =

@@ -10,7 +10,7 @@ use Rattle.gated_cli.specs.Doing.{Looks, Prints, Shows, Streams, beside, status_
 use Rattle.gated_cli.specs.Ending.{AskingEnds, HistoryEnds, LinesEnd, ShowingEnds, StatusEnds}
 use Rattle.gated_cli.specs.OfFile.{TextOf}
 use Rattle.gated_cli.specs.OverFile.{file_fault}
-use Rattle.gated_cli.specs.Showing.{EndsWell, LeavesStatus, Stops, StopsContent, StopsHistory, StopsLines}
+use Rattle.gated_cli.specs.Showing.{EndsWell, LeavesStatus, StopsShown, StopsContent, StopsHistory, StopsLines}
 use Rattle.gated_cli.specs.Showing.{StopsStatus, Writes, WritesStatus}
 use Rattle.gated_cli.specs.declared.run.fault.Fault.{Fault}
 use Rattle.gated_cli.specs.declared.run.fault.Fault.TheVariants as fault
@@ -159,7 +159,7 @@ asking_ends held old new fault.NoDelivery h left failed = absurd h
 
 -- a file that isn't opened leaves the output alone
 pub stops_unopened : {W : Type 0} (s : Shown) (held : W → Option (List ℕ)) (at : Tap W) (f : OpenFault)
-    → Stops s held at at (fault.File f)
+    → StopsShown s held at at (fault.File f)
 stops_unopened shown.Status held at f = refl
 stops_unopened (shown.History queue) held at f = refl
 stops_unopened (shown.Deliveries behind) held at f = refl
@@ -185,7 +185,7 @@ told_of (shown.Content path) g held old new u h = h
 pub show_closes : {W : Type 0} (s : Shown) (held : W → Option (List ℕ)) (old new : Tap W)
     (done result : Result (Unit {0}) Fault) → OnErr done (result ≡ done) →
     OnOk done (IfErr result (λ f. f ≡ fault.Store)) → OnOk done (EndsWell s held old new) →
-    IfErr done (Stops s held old new) → IfErr result (λ f. (left : Option (List ℕ)) → (failed : Bool) →
+    IfErr done (StopsShown s held old new) → IfErr result (λ f. (left : Option (List ℕ)) → (failed : Bool) →
     ShowingEnds s f (beside held left failed old) (beside held left failed new))
 show_closes shown.Status held old new done result kept store ok err =
     status_closes held old new done result kept store ok err

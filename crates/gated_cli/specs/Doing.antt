@@ -50,7 +50,7 @@ abbrev pub status_of : Gated → List ℕ
 status_of g = status_text g.settings g.content.state
 
 -- all of the input is read, and over some file's settings its lines have these replies
-pub record Answers (before after : Streams) : Type 0 where
+pub record AnswersInput (before after : Streams) : Type 0 where
   pub config : Settings
   pub settings : HasSettings config
   pub input : List ℕ
@@ -62,7 +62,7 @@ pub record Answers (before after : Streams) : Type 0 where
 
 -- the output grows by the replies, and then by the status text if it is asked for
 pub record Replays (asked : Bool) (before after : Streams) : Type 0 where
-  pub answers : Answers before after
+  pub answers : AnswersInput before after
   pub written : Appends before.held after.held
       (answers.replies ++ (if asked then status_of answers.gate else []))
 

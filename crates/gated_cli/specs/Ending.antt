@@ -9,7 +9,7 @@ use Rattle.gate_types.specs.declared.tap.Tap.{Tap}
 use Rattle.gate_config.specs.Reading.{said_by, Gives}
 use Rattle.gate_core.specs.Lines.{whole_lines, ReadFor}
 use Rattle.gate_core.specs.Replies.{Replayed, Cut}
-use Rattle.gated_cli.specs.Doing.{Streams, Answers, Delivers, HasSettings, settings_limit, status_of, check_text}
+use Rattle.gated_cli.specs.Doing.{Streams, AnswersInput, Delivers, HasSettings, settings_limit, status_of, check_text}
 use Rattle.gated_cli.specs.Doing.{Announces, IsPortFor, Looks, Prints, listening_line, migrated_text}
 use Rattle.gate_migration.specs.declared.migrating.Migrated.{Migrated}
 use Rattle.gated_command.specs.declared.words.Cmd.{Cmd}
@@ -66,7 +66,7 @@ pub record ReplyIsCut (before after : Streams) : Type 0 where
 -- the status is asked for, and behind all replies the output failed within it
 pub record StatusIsCut (asked : Bool) (before after : Streams) : Type 0 where
   pub wanted : asked ≡ true
-  pub answers : Answers before after
+  pub answers : AnswersInput before after
   pub at : ℕ
   pub short : at < length (status_of answers.gate)
   pub written : Appends before.held after.held (answers.replies ++ take at (status_of answers.gate))
@@ -74,7 +74,7 @@ pub record StatusIsCut (asked : Bool) (before after : Streams) : Type 0 where
 -- the status is asked for, and after all replies there was no memory for it
 pub record StatusIsRefused (asked : Bool) (before after : Streams) : Type 0 where
   pub wanted : asked ≡ true
-  pub answers : Answers before after
+  pub answers : AnswersInput before after
   pub written : Appends before.held after.held answers.replies
 
 -- the output failed within the counts of some file's settings

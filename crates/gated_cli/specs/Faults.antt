@@ -16,23 +16,23 @@ use Rattle.gated_cli.specs.declared.run.fault.Fault.{Fault}
 use Rattle.gated_cli.specs.declared.run.fault.Fault.TheVariants as fault
 
 -- a fault's number, a space and its word
-abbrev pub text_of : Fault → List ℕ
-text_of (fault.Settings f) = config_fault_text f
-text_of (fault.File f) = open_fault_text f
-text_of fault.Unavailable = codes "E15 unavailable"
-text_of fault.Read = request_fault_text request.Read
-text_of fault.Write = request_fault_text request.Write
-text_of fault.NoMemory = request_fault_text request.NoMemory
-text_of fault.Listener = codes "I4 listen"
-text_of fault.SettingsFile = codes "I5 settings-file"
-text_of fault.NoQueue = codes "I6 no-queue"
-text_of fault.Store = request_fault_text request.Store
-text_of fault.NoDelivery = codes "I8 no-delivery"
-text_of fault.Refused = codes "I9 refused"
+abbrev pub command_fault_text : Fault → List ℕ
+command_fault_text (fault.Settings f) = config_fault_text f
+command_fault_text (fault.File f) = open_fault_text f
+command_fault_text fault.Unavailable = codes "E15 unavailable"
+command_fault_text fault.Read = request_fault_text request.Read
+command_fault_text fault.Write = request_fault_text request.Write
+command_fault_text fault.NoMemory = request_fault_text request.NoMemory
+command_fault_text fault.Listener = codes "I4 listen"
+command_fault_text fault.SettingsFile = codes "I5 settings-file"
+command_fault_text fault.NoQueue = codes "I6 no-queue"
+command_fault_text fault.Store = request_fault_text request.Store
+command_fault_text fault.NoDelivery = codes "I8 no-delivery"
+command_fault_text fault.Refused = codes "I9 refused"
 
 -- the line that tells a fault
 abbrev pub line_of : Fault → List ℕ
-line_of f = fault_line (text_of f)
+line_of f = fault_line (command_fault_text f)
 
 -- a fault of a replay
 abbrev pub of_replay : ReplayFault → Fault

@@ -22,7 +22,7 @@ use Rattle.gated_command.specs.declared.words.Cmd.TheVariants.{Check, Init, Repl
 use Rattle.gated_command.specs.declared.words.Cmd.TheVariants.{Deliveries, Get, Serve, Migrate}
 use Rattle.gated_cli.specs.Doing.{HasSettings, Streams, migrated_text, status_of}
 use Rattle.gated_cli.specs.OverFile.{GoesOver, RepliesOver, ServesOver}
-use Rattle.gated_cli.specs.Showing.{OfContent, OfLines, lines_told}
+use Rattle.gated_cli.specs.Showing.{OfContent, OfLinesTold, lines_told}
 use Rattle.gated_cli.specs.declared.run.shown.Shown.{Shown}
 use Rattle.gated_cli.specs.declared.run.shown.Shown.TheVariants as shown
 
@@ -50,7 +50,7 @@ abbrev pub HistoryOf : List ℕ → Gated → (List ℕ → Type 0) → Type 0
 HistoryOf queue g Takes = OfQueue g.content.state queue [] Takes
 
 abbrev pub DeliveriesOf : Option (List ℕ) → Gated → (List ℕ → Type 0) → Type 0
-DeliveriesOf after g Takes = OfLines (lines_told g after) Takes
+DeliveriesOf after g Takes = OfLinesTold (lines_told g after) Takes
 
 abbrev pub ContentOf : List ℕ → Gated → (List ℕ → Type 0) → Type 0
 ContentOf path g Takes = OfContent g path (Answered 200) Takes

@@ -8,7 +8,7 @@ use Rattle.gate_types.specs.Once.{Call, Content}
 use Rattle.gate_types.specs.Settings.{Settings, are_sound}
 use Rattle.gate_types.specs.Gated.{Gated}
 use Rattle.gate_rows.specs.Matches.{StandsFor}
-use Rattle.gate_file_changes.specs.Adopts.{IsKept}
+use Rattle.gate_file_changes.specs.Adopts.{StandsForLawful}
 use Rattle.gate_table_laws.specs.Held.{LeavesFor, ShowsFor}
 use Rattle.gate_types.specs.declared.open_fault.OpenFault.{OpenFault}
 use Rattle.gate_types.specs.declared.open_fault.OpenFault.TheVariants as open_fault
@@ -32,7 +32,7 @@ pub record IsAdoptedOf (s : State) (c : Settings) (g : Gated) : Type 0 where
   pub up : IsTrue s.is_open
   pub kept : Settings
   pub before : Content
-  pub keeps : IsKept s.now.trees kept before
+  pub keeps : StandsForLawful s.now.trees kept before
   pub may : may_adopt kept c ≡ true
   pub becomes : g.content ≡ adopted_content kept c before
 

@@ -16,7 +16,7 @@ use Rattle.gate_core.specs.Holding.{OfGate, book_of, settings_of}
 use Rattle.gate_http.specs.declared.response.Form.TheVariants as form
 use Rattle.gate_http.specs.declared.served.Served.{Served}
 use Rattle.gate_http.specs.declared.served.Served.TheVariants.{Answered}
-use Rattle.gate_http.specs.Answer.{Answers as AnswersBy}
+use Rattle.gate_http.specs.Answer.{AnswersBy}
 use Rattle.gate_http.specs.Got.{way_got}
 use Rattle.gated_cli.specs.Doing.{status_of}
 use Rattle.gated_cli.specs.declared.run.fault.Fault.{Fault}
@@ -47,17 +47,17 @@ StopsStatus held old new _ = ⊥
 -- ---- the history of a queue
 
 -- what a fault leaves of the history of a queue: a beginning of its text; no queue has the name at `NoQueue`
-abbrev pub LeavesHistory : {W : Type 0} → Gated → List ℕ → (W → Option (List ℕ)) → Tap W → Tap W → Fault → Type 0
-LeavesHistory g name held old new fault.Write = OfQueue g.content.state name [] (TookFront held old new)
-LeavesHistory g name held old new fault.Store = OfQueue g.content.state name [] (TookFront held old new)
-LeavesHistory g name held old new fault.NoQueue = queue_named g.content.state name ≡ None
-LeavesHistory g name held old new _ = ⊤
+abbrev pub LeavesShownHistory : {W : Type 0} → Gated → List ℕ → (W → Option (List ℕ)) → Tap W → Tap W → Fault → Type 0
+LeavesShownHistory g name held old new fault.Write = OfQueue g.content.state name [] (TookFront held old new)
+LeavesShownHistory g name held old new fault.Store = OfQueue g.content.state name [] (TookFront held old new)
+LeavesShownHistory g name held old new fault.NoQueue = queue_named g.content.state name ≡ None
+LeavesShownHistory g name held old new _ = ⊤
 
 -- there is a queue of the name and the text of its history is written, or what a fault leaves of it
-abbrev pub WritesHistory : {W : Type 0} → Gated → List ℕ → (W → Option (List ℕ)) → Tap W → Tap W →
+abbrev pub WritesShownHistory : {W : Type 0} → Gated → List ℕ → (W → Option (List ℕ)) → Tap W → Tap W →
     Result (Unit {0}) Fault → Type 0
-WritesHistory g name held old new result = MatchResult result
-    (λ _. OfQueue g.content.state name [] (Took held old new)) (LeavesHistory g name held old new)
+WritesShownHistory g name held old new result = MatchResult result
+    (λ _. OfQueue g.content.state name [] (Took held old new)) (LeavesShownHistory g name held old new)
 
 -- what a fault of it leaves of the output, whatever the gate is
 abbrev pub StopsHistory : {W : Type 0} → Tap W → Tap W → Fault → Type 0
@@ -94,15 +94,15 @@ abbrev pub lines_told : Gated → Option (List ℕ) → Option (List ℕ)
 lines_told g after = lines_behind g (cursor after)
 
 -- there are these lines, and this is so of them
-pub record OfLines (told : Option (List ℕ)) (P : List ℕ → Type 0) : Type 0 where
+pub record OfLinesTold (told : Option (List ℕ)) (P : List ℕ → Type 0) : Type 0 where
   pub lines : List ℕ
   pub are : told ≡ Some lines
   pub so : P lines
 
 -- what a fault leaves of the lines of deliveries: some first bytes; no delivery has the id at `NoDelivery`
 abbrev pub LeavesLines : {W : Type 0} → Option (List ℕ) → (W → Option (List ℕ)) → Tap W → Tap W → Fault → Type 0
-LeavesLines told held old new fault.Write = OfLines told (TookSome held old new)
-LeavesLines told held old new fault.Store = OfLines told (TookSome held old new)
+LeavesLines told held old new fault.Write = OfLinesTold told (TookSome held old new)
+LeavesLines told held old new fault.Store = OfLinesTold told (TookSome held old new)
 LeavesLines told held old new fault.NoDelivery = told ≡ None
 LeavesLines told held old new _ = ⊤
 
@@ -110,7 +110,7 @@ LeavesLines told held old new _ = ⊤
 abbrev pub WritesLines : {W : Type 0} → Option (List ℕ) → (W → Option (List ℕ)) → Tap W → Tap W →
     Result (Unit {0}) Fault → Type 0
 WritesLines told held old new result =
-    MatchResult result (λ _. OfLines told (Took held old new)) (LeavesLines told held old new)
+    MatchResult result (λ _. OfLinesTold told (Took held old new)) (LeavesLines told held old new)
 
 -- what a fault of it leaves of the output, whatever the gate is
 abbrev pub StopsLines : {W : Type 0} → Tap W → Tap W → Fault → Type 0
@@ -164,7 +164,7 @@ StopsContent old new _ = ⊥
 abbrev pub Writes : {W : Type 0} → Shown → Gated → (W → Option (List ℕ)) → Tap W → Tap W → Result (Unit {0}) Fault →
     Type 0
 Writes shown.Status g held old new result = WritesStatus g held old new result
-Writes (shown.History queue) g held old new result = WritesHistory g queue.now held old new result
+Writes (shown.History queue) g held old new result = WritesShownHistory g queue.now held old new result
 Writes (shown.Deliveries after) g held old new result =
     WritesLines (lines_told g (option_map (λ s. s.now) after)) held old new result
 Writes (shown.Content path) g held old new result = WritesContent g path.now held old new result
@@ -177,11 +177,11 @@ EndsWell (shown.Deliveries after) held old new = has_failed new ≡ false
 EndsWell (shown.Content path) held old new = has_failed new ≡ false
 
 -- what a fault of it leaves of the output, whatever the gate is
-abbrev pub Stops : {W : Type 0} → Shown → (W → Option (List ℕ)) → Tap W → Tap W → Fault → Type 0
-Stops shown.Status held old new f = StopsStatus held old new f
-Stops (shown.History queue) held old new f = StopsHistory old new f
-Stops (shown.Deliveries after) held old new f = StopsLines old new f
-Stops (shown.Content path) held old new f = StopsContent old new f
+abbrev pub StopsShown : {W : Type 0} → Shown → (W → Option (List ℕ)) → Tap W → Tap W → Fault → Type 0
+StopsShown shown.Status held old new f = StopsStatus held old new f
+StopsShown (shown.History queue) held old new f = StopsHistory old new f
+StopsShown (shown.Deliveries after) held old new f = StopsLines old new f
+StopsShown (shown.Content path) held old new f = StopsContent old new f
 
 -- a crash leaves what it could leave before
 abbrev pub LeavesAsBefore : {B : Type 0} → (B → Type 0) → (B → Settings → Content → Type 0) →

@@ -109,14 +109,14 @@ abbrev pub migrate : App
 migrate = over_file (codes "migrate")
 
 -- the program's name, before any command
-abbrev pub bare : App
-bare = new_app (codes "gated")
+abbrev pub bare_gated : App
+bare_gated = new_app (codes "gated")
 
 -- the program's command line, which has a version, and where a command has to be given
 abbrev pub gated : App
 gated = with_subcommand (with_subcommand (with_subcommand (with_subcommand (with_subcommand (with_subcommand
-    (with_subcommand (with_subcommand (with_subcommand (with_subcommand (record bare {
-      top = record bare.top { has_version = true; subcommand_required = true };
+    (with_subcommand (with_subcommand (with_subcommand (with_subcommand (record bare_gated {
+      top = record bare_gated.top { has_version = true; subcommand_required = true };
     }) check.top) init.top) replay.top) deliver.top) status.top) history.top) deliveries.top) get.top) serve.top)
     migrate.top
 
@@ -170,21 +170,21 @@ numbers_of rows = option_and_then (λ p. option_map (λ n. (p, n))
     (option_and_then (number_in 0 most_port) (first_of (codes "port") rows))
 
 -- what `history` and its rows say
-abbrev pub told_of : List Row → Option Instruction
-told_of rows =
+abbrev pub history_said : List Row → Option Instruction
+history_said rows =
     option_and_then (λ f. option_map (λ q. history_of f q) (first_of (codes "queue") rows)) (files_of rows)
 
 -- what `deliveries` and its rows say
-abbrev pub fed_of : List Row → Option Instruction
-fed_of rows = option_map (λ f. deliveries_of f (first_of (codes "after") rows)) (files_of rows)
+abbrev pub deliveries_said : List Row → Option Instruction
+deliveries_said rows = option_map (λ f. deliveries_of f (first_of (codes "after") rows)) (files_of rows)
 
 -- what `get` and its rows say
-abbrev pub got_of : List Row → Option Instruction
-got_of rows = option_and_then (λ f. option_map (λ p. get_of f p) (first_of (codes "path") rows)) (files_of rows)
+abbrev pub get_said : List Row → Option Instruction
+get_said rows = option_and_then (λ f. option_map (λ p. get_of f p) (first_of (codes "path") rows)) (files_of rows)
 
 -- what `serve` and its rows say
-abbrev pub served_of : List Row → Option Instruction
-served_of rows = option_and_then (λ f. option_map (λ n. serve_of f n.0 n.1) (numbers_of rows)) (files_of rows)
+abbrev pub serve_said : List Row → Option Instruction
+serve_said rows = option_and_then (λ f. option_map (λ n. serve_of f n.0 n.1) (numbers_of rows)) (files_of rows)
 
 -- what a subcommand and its rows say
 abbrev pub said_of : Text × List Row → Option Instruction
@@ -195,10 +195,10 @@ said_of (name, rows) =
     (λ s. replay_of s (is_set (first_of (codes "status") rows))) (first_of (codes "settings") rows) else (
     if bytes_eq name (codes "deliver") then option_map deliver_of (files_of rows) else (
     if bytes_eq name (codes "status") then option_map showing_of (files_of rows) else (
-    if bytes_eq name (codes "history") then told_of rows else (
-    if bytes_eq name (codes "deliveries") then fed_of rows else (
-    if bytes_eq name (codes "get") then got_of rows else (
-    if bytes_eq name (codes "serve") then served_of rows else (
+    if bytes_eq name (codes "history") then history_said rows else (
+    if bytes_eq name (codes "deliveries") then deliveries_said rows else (
+    if bytes_eq name (codes "get") then get_said rows else (
+    if bytes_eq name (codes "serve") then serve_said rows else (
     if bytes_eq name (codes "migrate") then option_map migrate_of (files_of rows) else None)))))))))
 
 abbrev pub says : Option Cmd → Option (Text × List Row) → Type 0
@@ -225,14 +225,14 @@ is_help kind.DisplayVersion = true
 is_help _ = false
 
 -- there is no kind
-abbrev pub is_taken : List ErrorKind → Bool
-is_taken [] = true
-is_taken (k ∷ ks) = false
+abbrev pub is_without_fault : List ErrorKind → Bool
+is_without_fault [] = true
+is_without_fault (k ∷ ks) = false
 
 -- `clap` refuses the words, and they ask for no help
 abbrev pub is_refused : List Text → Bool
 is_refused words =
-    not (is_taken (fault_of gated words)) && list_all (λ k. not (is_help k)) (fault_of gated words)
+    not (is_without_fault (fault_of gated words)) && list_all (λ k. not (is_help k)) (fault_of gated words)
 
 -- `clap` may refuse the words, or they name no command
 abbrev pub may_be_refused : List Text → Bool

@@ -15,7 +15,7 @@ use Rattle.gate_types.specs.State.{Item}
 use Rattle.gate_types.specs.Line.{Place}
 use Rattle.gate_types.specs.Slot.{is_blocked, are_met_by, has_failure, is_cut, raw_slot_of, is_finished}
 use Rattle.gate_types.specs.Standing.{with_ahead, next_ahead}
-use Rattle.gate_types.specs.Sweep.{verdict_of, has_failed, judge, next_staying}
+use Rattle.gate_types.specs.Sweep.{verdict_of, fails_for_good, judge, next_staying}
 use Rattle.gate_types.specs.Rows.{item_of}
 use Rattle.gate_queue_rules.specs.Edits.{edits_at, edits_after, next_reports, window_behind, window_after}
 use Rattle.gate_queue_rules.proofs.Ordered.{GoWith}
@@ -76,7 +76,7 @@ pub verdict_told : (bs : List Build) (staying : List Item) (p : Place) (m f e u 
 verdict_told bs staying p m f e u d eb em ef ee eu ed =
     let cut : u ≡ is_cut bs p =
     eu ∙ ap (λ t. p.fast && t) ef ∙ sym (ap (λ t. p.fast && not t && has_failure bs p) eb ∙ ap (λ t. t && has_failure bs p) (and_true p.fast)) in
-    let all : f && e && (u || d) ≡ has_failed bs p =
+    let all : f && e && (u || d) ≡ fails_for_good bs p =
     (λ k. ef k && ee k && (cut k || ed k))
     ∙ sym ((λ k. (eb k || has_failure bs p) && not (eb k) && length p.ahead == 0 && finished_is bs p k)
     ∙ ap (λ t. t && length p.ahead == 0 && (is_cut bs p || list_all (λ j. is_finished (raw_slot_of bs p j)) p.jobs)) (and_true (has_failure bs p))) in

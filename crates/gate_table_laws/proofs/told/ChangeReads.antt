@@ -164,13 +164,13 @@ needs_known rows n = by_row (find (λ (r : ChangeRow). r.change.number == n) row
 
 module _ (c : Settings) (x : Content) (b : Stored) (told : Matches b (tables c x)) where
   -- what is known of a change
-  pub change_is : (n : ℕ) → file.known_change b n ≡ known_change x.state n
+  pub change_is : (n : ℕ) → file.stored_change b n ≡ known_change x.state n
   change_is n =
       ap (λ rows. option_map (λ (r : ChangeRow). r.change) (find (λ (r : ChangeRow). change_key r == n) rows))
       told.changes_are ∙ read.change_is c x n
 
   -- the number of a change's approval
-  pub approval_is : IsLawfulContent c x → (n : ℕ) → file.approval_of b n ≡ approval_of x.state.ready n
+  pub approval_is : IsLawfulContent c x → (n : ℕ) → file.stored_approval_of b n ≡ approval_of x.state.ready n
   approval_is lawful n =
       ap (λ rows. option_and_then (λ (r : ChangeRow). r.approval) (find (λ (r : ChangeRow). change_key r == n) rows))
       told.changes_are ∙ read.approval_is c x n lawful

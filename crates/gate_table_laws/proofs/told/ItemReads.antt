@@ -24,7 +24,7 @@ item_alone (Some r) = refl
 
 module _ (c : Settings) (x : Content) (b : Stored) (lawful : IsLawfulContent c x) (told : Matches b (tables c x)) where
   -- the item of a serial
-  pub item_is : AreNamed b → (serial : ℕ) → file.item_at b serial ≡ content.item_at c x.state serial
+  pub item_is : AreNamed b → (serial : ℕ) → file.stored_item_at b serial ≡ content.item_at c x.state serial
   item_is named serial =
       item_alone (find (λ (r : ItemRow). item_key r == serial) b.items)
       ∙ ap (option_map (λ (k : QueuedItem). k.item)) (found_once c x b told named (λ i. i.serial) once serial)
@@ -33,7 +33,7 @@ module _ (c : Settings) (x : Content) (b : Stored) (lawful : IsLawfulContent c x
       once n = let few = serials_once c x.state lawful.lawful.sound n in omega (arith, few)
 
   -- the item of a change, with its queue's name
-  pub queued_is : AreNamed b → (n : ℕ) → file.queued_of b n ≡ content.queued_of c x.state n
+  pub queued_is : AreNamed b → (n : ℕ) → file.stored_queued_of b n ≡ content.queued_of c x.state n
   queued_is named = found_once c x b told named (λ i. i.change) once
     where
       once : (n : ℕ) → times n (flat_map item_changes x.state.queues) ≤ 1
@@ -42,6 +42,6 @@ module _ (c : Settings) (x : Content) (b : Stored) (lawful : IsLawfulContent c x
 module _ (c : Settings) (x : Content) (b : Stored) (told : Matches b (tables c x)) where
   -- the items above a serial whose changes need another
   pub needing_is : (name : List ℕ) (n serial : ℕ) →
-      file.items_needing b name n serial ≡ content.items_needing x.state n serial (content.items_in c x.state name)
+      file.stored_items_needing b name n serial ≡ content.items_needing x.state n serial (content.items_in c x.state name)
   needing_is name n serial =
       λ k. filter (λ (i : Item). nat_lt serial i.serial && needs_are c x b told n i.change k) (items_are c x b told name k)

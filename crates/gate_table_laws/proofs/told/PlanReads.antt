@@ -44,7 +44,7 @@ plan_of_jobs p sound = by_jobs p.jobs refl (and_parts _ _ sound).1
 
 module _ (c : Settings) (x : Content) (b : Stored) (told : Matches b (tables c x)) where
   -- the jobs under a serial
-  jobs_are : (n : ℕ) → file.jobs_of b n ≡ jobs_in x.state.plans n
+  jobs_are : (n : ℕ) → file.stored_jobs_of b n ≡ jobs_in x.state.plans n
   jobs_are n = ap (map (λ (y : JobRow). y.job)) (told.plans_are.jobs_are n) ∙ jobs_of_rows n 0 (jobs_in x.state.plans n)
 
   -- they stand at their places
@@ -53,7 +53,7 @@ module _ (c : Settings) (x : Content) (b : Stored) (told : Matches b (tables c x
 
 module _ (c : Settings) (x : Content) (b : Stored) (lawful : IsLawfulContent c x) (told : Matches b (tables c x)) where
   -- the plan under a serial
-  pub plan_is : (n : ℕ) → file.plan_at b n ≡ content.plan_at x.state n
+  pub plan_is : (n : ℕ) → file.stored_plan_at b n ≡ content.plan_at x.state n
   plan_is n =
       (λ i. file.plan_with n (told.plans_are.fast_are n i) (jobs_are c x b told n i))
       ∙ by_plan (find (λ (p : Plan). p.serial == n) x.state.plans) refl

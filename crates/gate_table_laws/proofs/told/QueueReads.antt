@@ -182,7 +182,7 @@ module _ (c : Settings) (x : Content) (b : Stored) (told : Matches b (tables c x
       by_queue (Some q) = omega arith
 
   -- the window of a queue
-  pub window_is : (name : List ℕ) → file.window_of b name ≡ content.window_of x.state name
+  pub window_is : (name : List ℕ) → file.stored_window_of b name ≡ content.window_of x.state name
   window_is name =
       ap (λ l. option_map (λ (q : QueueRow). q.window) (find (λ (q : QueueRow). same_name q.name name) l)) told.queues_are.places
       ∙ window_placed c x.state name 0 x.state.queues

@@ -1,6 +1,6 @@
 //! The faults that end a command.
 ghost use Rattle.std.specs.Prelude.{◌≡◌};
-ghost use Rattle.gated_cli.specs.Faults.{text_of};
+ghost use Rattle.gated_cli.specs.Faults.{command_fault_text};
 
 use gate_archive::FeedFault;
 use gate_book_trait::HistoryFault;
@@ -44,7 +44,7 @@ pub enum Fault {
 impl Fault {
     /// The fault's number, a space and its word.
     pub fn text(self) -> &'static str
-        ensures { result.now ≡ text_of self }
+        ensures { result.now ≡ command_fault_text self }
     {
         match self {
             Fault::Settings(fault) => fault.text(),
@@ -66,7 +66,7 @@ impl Fault {
 impl fmt::Display for Fault {
     ghost use Rattle.std.specs.Prelude.{Some};
 
-    ghost output = { λ f. Some (text_of f) };
+    ghost output = { λ f. Some (command_fault_text f) };
 
     fn fmt<W: fmt::Write>(&self, f: &mut fmt::Formatter<W>) -> fmt::Result {
         f.write_str(self.text())

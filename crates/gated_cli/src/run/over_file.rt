@@ -25,7 +25,7 @@ ghost use Rattle.gated_cli.specs.Doing.{Announces, beside};
 ghost use Rattle.gated_cli.specs.Ending.{IsOfFile, ServingEnds, most_served};
 ghost use Rattle.gated_cli.specs.OverFile.{BreaksOver, GoesOver, IsOfServingOver, LeavesAfter, RepliesOver};
 ghost use Rattle.gated_cli.specs.OverFile.{ServesOver, StaysLawful, file_answer, file_fault};
-ghost use Rattle.gated_cli.specs.Showing.{Writes, EndsWell, Stops};
+ghost use Rattle.gated_cli.specs.Showing.{Writes, EndsWell, StopsShown};
 ghost use Rattle.gated_cli.specs.Telling.{TellsUpTo};
 
 use crate::run::fault::Fault;
@@ -222,7 +222,7 @@ pub fn show<S: Alter + Drop, W: Write>(
     ensures none { HasCleanDisk (state S.Store result.0) →
         IfSome (file_fault result.1) (IsRefused (state S.Store conn) (state S.Store result.0)) }
     ensures ok { OnOk result.1 (EndsWell shown.entry W.contents output.old output.new) }
-    ensures err { IfErr result.1 (Stops shown.entry W.contents output.old output.new) }
+    ensures err { IfErr result.1 (StopsShown shown.entry W.contents output.old output.new) }
 {
     stays_lawful(&config);
     let book = match SqlBook::open(alloc, conn, &config) {

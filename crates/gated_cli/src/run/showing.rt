@@ -4,9 +4,9 @@ ghost use Rattle.gate_types.specs.Tap.{has_failed, Took};
 ghost use Rattle.gate_core.specs.Held.{Goes};
 ghost use Rattle.gate_core.specs.Holding.{IsKeptGate};
 ghost use Rattle.gated_cli.specs.OverFile.{file_fault};
-ghost use Rattle.gated_cli.specs.Showing.{WritesStatus, StopsStatus, WritesHistory, StopsHistory, cursor};
+ghost use Rattle.gated_cli.specs.Showing.{WritesStatus, StopsStatus, WritesShownHistory, StopsHistory, cursor};
 ghost use Rattle.gated_cli.specs.Showing.{lines_behind, lines_told, WritesLines, StopsLines, IsEndedBy};
-ghost use Rattle.gated_cli.specs.Showing.{WritesContent, StopsContent, Writes, EndsWell, Stops, LeavesAsBefore};
+ghost use Rattle.gated_cli.specs.Showing.{WritesContent, StopsContent, Writes, EndsWell, StopsShown, LeavesAsBefore};
 
 use crate::run::fault::Fault;
 use crate::run::shown::Shown;
@@ -59,7 +59,7 @@ pub(crate) fn write_history<B: Book, W: Write>(
 ) -> Result<(), Fault>
     requires { has_failed output.old ≡ false }
     ensures gate { Goes B.IsTrusted B.Holds gate.old gate.new
-        (λ g after. (after ≡ g) × WritesHistory g queue.now W.contents output.old output.new result) }
+        (λ g after. (after ≡ g) × WritesShownHistory g queue.now W.contents output.old output.new result) }
     ensures kept { IsKeptGate B.IsTrusted B.Holds B.LeavesOneOf gate.old gate.new }
     ensures ok { OnOk result (has_failed output.new ≡ false) }
     ensures err { IfErr result (StopsHistory output.old output.new) }
@@ -186,7 +186,7 @@ pub(crate) fn write_shown<B: Archive, W: Write>(
         × Writes shown.entry g W.contents output.old output.new result) }
     ensures crash { LeavesAsBefore B.IsTrusted B.Holds B.LeavesOneOf gate.old gate.new }
     ensures ok { OnOk result (EndsWell shown.entry W.contents output.old output.new) }
-    ensures err { IfErr result (Stops shown.entry W.contents output.old output.new) }
+    ensures err { IfErr result (StopsShown shown.entry W.contents output.old output.new) }
     ensures opened { file_fault result ≡ None }
 {
     match shown {

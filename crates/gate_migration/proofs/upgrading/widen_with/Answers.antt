@@ -3,7 +3,7 @@ use Rattle.std.proofs.lemmas.Result.{on_ok_weaker}
 use Rattle.sqlite.specs.State.{HasCleanDisk}
 use Rattle.sqlite.specs.Held.{state}
 use Rattle.gate_rows.proofs.ThenLemmas.{kept_then}
-use Rattle.gate_migration.specs.Upgrade.{without_plans}
+use Rattle.gate_migration.specs.Upgrade.{stored_without_plans}
 use Rattle.gate_migration.proofs.upgrading.widen_with.Goals as goal
 
 pub returns-clause-made : goal.returns-clause-made
@@ -14,8 +14,8 @@ returns-clause-made g c clean b t first can =
     (λ steps. (
       steps.changes.ready,
       record {
-        stands = steps.changes.stands (without_plans b) can.named filled.stands;
-        matches = steps.told (without_plans b) t can.named filled.stands can.known can.planned can.matches;
+        stands = steps.changes.stands (stored_without_plans b) can.named filled.stands;
+        matches = steps.told (stored_without_plans b) t can.named filled.stands can.known can.planned can.matches;
       },
     ))
     (c.apply_all.ensures.steps clean filled.ready)

@@ -1,7 +1,7 @@
 use Rattle.std.proofs.Common.{ap, true, ◌≡◌, ◌∙◌}
 use Rattle.clap.specs.Simple.{app_of_fields}
 use Rattle.clap.specs.Words.{App, app_of}
-use Rattle.gated_command.specs.CommandLine.{bare}
+use Rattle.gated_command.specs.CommandLine.{bare_gated}
 use Rattle.gated_command.proofs.commands.app.Goals as goal
 
 -- the program that has a version
@@ -14,10 +14,10 @@ requiring a = record a { top = record a.top { subcommand_required = true } }
 
 pub returns : goal.returns
 returns c =
-    let about : app_of c.about.result ≡ bare = ap app_of_fields c.about.ensures ∙ c.new.ensures.app in
-    let dated : app_of c.version.result ≡ versioned bare =
+    let about : app_of c.about.result ≡ bare_gated = ap app_of_fields c.about.ensures ∙ c.new.ensures.app in
+    let dated : app_of c.version.result ≡ versioned bare_gated =
     ap app_of_fields c.version.ensures ∙ ap versioned about in
-    let strict : app_of c.subcommand_required-bare.result ≡ requiring (versioned bare) =
+    let strict : app_of c.subcommand_required-bare.result ≡ requiring (versioned bare_gated) =
     ap app_of_fields c.subcommand_required-bare.ensures ∙ ap requiring dated in
     let checking = c.with-whole.ensures _ _ strict c.check.ensures in
     let making = c.with-whole-2.ensures _ _ checking c.init.ensures in

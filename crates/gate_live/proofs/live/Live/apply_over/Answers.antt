@@ -27,7 +27,7 @@ returns-clause-edited g c k x y lawful agrees leads =
     (c.apply_to_items.ensures.builds ∙ λ i. fold_held ((c.make_room.ensures.rows ∙ ap (λ (p : Parts). p.builds) view) i) (copies i))
     (c.apply_to_items.ensures.plans ∙ λ i. fold_held_plans is_item ((c.make_room-2.ensures.rows ∙ ap (λ (p : Parts). p.plans) view) i) (copies i))
     (changes_edited k x y queues edits c.args.self.now.changes (option_map changes_held c.edit.new.changes)
-    (c.edit.ensures.rows ∙ ap (option_map (rows_edited queues edits)) (c.in_ok-rows.ensures.rows ∙ ap (λ (p : Parts). p.changes) view))
+    (c.edit.ensures.rows ∙ ap (option_map (rows_edited queues edits)) (c.in_ok-changes.ensures.rows ∙ ap (λ (p : Parts). p.changes) view))
     agrees.changes leads)
     agrees leads
 

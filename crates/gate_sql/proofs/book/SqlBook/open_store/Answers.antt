@@ -3,7 +3,7 @@ use Rattle.sqlite.specs.Held.{state}
 use Rattle.sqlite.specs.State.{HasCleanDisk}
 use Rattle.gate_types.specs.Once.{Content}
 use Rattle.gate_rows.specs.Matches.{StandsFor}
-use Rattle.gate_file_changes.specs.Adopts.{IsKept}
+use Rattle.gate_file_changes.specs.Adopts.{StandsForLawful}
 use Rattle.gate_table_laws.specs.Held.{HoldsFor}
 use Rattle.gate_sql.proofs.AgainLemmas.{one_held, one_stands}
 use Rattle.gate_sql.proofs.OpenLemmas.{told_of}
@@ -37,29 +37,29 @@ returns-in-Ok-open-clause-settled g c clean xs it db left =
 pub returns-in-Ok-open-clause-adopts : goal.returns-in-Ok-open-clause-adopts
 returns-in-Ok-open-clause-adopts g c clean cs x keeps may =
     let first : HasCleanDisk (state g.S.Store c.in-Ok.conn) = c.in-Ok-open.ensures.clean clean in
-    c.in-Ok-open.ensures.adopts (c.in-Ok.ensures.opens first).0.is_open cs x (subst (λ t. IsKept t cs x) (sym (c.in-Ok.ensures.trees first)) keeps) may clean
+    c.in-Ok-open.ensures.adopts (c.in-Ok.ensures.opens first).0.is_open cs x (subst (λ t. StandsForLawful t cs x) (sym (c.in-Ok.ensures.trees first)) keeps) may clean
 
 pub returns-in-Ok-open-clause-adopted : goal.returns-in-Ok-open-clause-adopted
 returns-in-Ok-open-clause-adopted g c clean cs x keeps may db left =
     let first : HasCleanDisk (state g.S.Store c.in-Ok.conn) = c.in-Ok-open.ensures.clean clean in
-    c.in-Ok-open.ensures.adopted (c.in-Ok.ensures.opens first).0.is_open cs x (subst (λ t. IsKept t cs x) (sym (c.in-Ok.ensures.trees first)) keeps) may clean db left
+    c.in-Ok-open.ensures.adopted (c.in-Ok.ensures.opens first).0.is_open cs x (subst (λ t. StandsForLawful t cs x) (sym (c.in-Ok.ensures.trees first)) keeps) may clean db left
 
 pub returns-in-Ok-open-clause-refuses : goal.returns-in-Ok-open-clause-refuses
 returns-in-Ok-open-clause-refuses g c cs x keeps refused clean =
     let first : HasCleanDisk (state g.S.Store c.in-Ok.conn) = c.in-Ok-open.ensures.clean clean in
-    c.in-Ok-open.ensures.refuses (c.in-Ok.ensures.opens first).0.is_open cs x (subst (λ t. IsKept t cs x) (sym (c.in-Ok.ensures.trees first)) keeps) refused clean
+    c.in-Ok-open.ensures.refuses (c.in-Ok.ensures.opens first).0.is_open cs x (subst (λ t. StandsForLawful t cs x) (sym (c.in-Ok.ensures.trees first)) keeps) refused clean
 
 pub returns-in-Err-open-clause-refuses : goal.returns-in-Err-open-clause-refuses
 returns-in-Err-open-clause-refuses g c cs x keeps refused clean =
     let last : HasCleanDisk (state g.S.Store c.in-Err-open.conn) = omega (arith, clean, c.into_store.ensures.quiet.clean) in
     let first : HasCleanDisk (state g.S.Store c.in-Ok.conn) = c.in-Err-open.ensures.clean last in
-    c.in-Err-open.ensures.refuses (c.in-Ok.ensures.opens first).0.is_open cs x (subst (λ t. IsKept t cs x) (sym (c.in-Ok.ensures.trees first)) keeps) refused last
+    c.in-Err-open.ensures.refuses (c.in-Ok.ensures.opens first).0.is_open cs x (subst (λ t. StandsForLawful t cs x) (sym (c.in-Ok.ensures.trees first)) keeps) refused last
 
 pub returns-in-Err-open-clause-may_fault : goal.returns-in-Err-open-clause-may_fault
 returns-in-Err-open-clause-may_fault g c cs x keeps may clean =
     let last : HasCleanDisk (state g.S.Store c.in-Err-open.conn) = omega (arith, clean, c.into_store.ensures.quiet.clean) in
     let first : HasCleanDisk (state g.S.Store c.in-Ok.conn) = c.in-Err-open.ensures.clean last in
-    c.in-Err-open.ensures.adopts (c.in-Ok.ensures.opens first).0.is_open cs x (subst (λ t. IsKept t cs x) (sym (c.in-Ok.ensures.trees first)) keeps) may last
+    c.in-Err-open.ensures.adopts (c.in-Ok.ensures.opens first).0.is_open cs x (subst (λ t. StandsForLawful t cs x) (sym (c.in-Ok.ensures.trees first)) keeps) may last
 
 pub returns-in-Ok-open-clause-told : goal.returns-in-Ok-open-clause-told
 returns-in-Ok-open-clause-told g c clean =
