@@ -12,7 +12,8 @@ use Rattle.gate_types.specs.Limits.{most_listed}
 
 -- the query that reads the reports of a queue from a place on
 abbrev pub history_sql : List ℕ
-history_sql = codes "SELECT serial, change, revision, verdict, n FROM report WHERE queue = ?1 AND place >= ?2 ORDER BY place"
+history_sql =
+    codes "SELECT serial, change, revision, verdict, n FROM report WHERE queue = ?1 AND place >= ?2 ORDER BY place"
 
 -- the tables hold these reports of the queue, the first at place 1, and no more than serials may be drawn
 abbrev pub HoldsReports : Stored → List ℕ → List Report → Type 0

@@ -37,7 +37,8 @@ middle_fails = take ∷ take ∷ take ∷ failed 3 ∷ withdrawn 101 ∷ take �
 
 -- an item that fails behind another stays until that one is decided, and starts anew where that one goes
 pub record AFailureBehindAnItemStays : Type 0 where
-  pub replies : replies_to settings two middle_fails ≡ build_1 ∷ build_2 ∷ build_3 ∷ noted ∷ removed ∷ build_4 ∷ stale ∷ []
+  pub replies : replies_to settings two middle_fails
+      ≡ build_1 ∷ build_2 ∷ build_3 ∷ noted ∷ removed ∷ build_4 ∷ stale ∷ []
   pub failing : status_text settings (after settings two (take ∷ take ∷ take ∷ failed 3 ∷ [])) ≡ lines (
       codes "queue core window 2 landed 0" ∷
       codes "     1       101    1      - ok      unit=running docs=running" ∷

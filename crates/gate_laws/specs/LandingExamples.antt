@@ -18,7 +18,8 @@ second_passed = after settings three (take ∷ take ∷ take ∷ failed 1 ∷ ta
 pub record AnItemLandsBeforeAFailingOne : Type 0 where
   pub orders : order_list_text settings second_passed
       ≡ codes "[{\"change\":102,\"order\":2,\"project\":\"app\",\"queue\":\"core\",\"revision\":1}]"
-  pub replies : replies_to settings second_passed (delivery.Landed 2 ∷ passed 2 ∷ []) ≡ landed_as (codes "1") ∷ noted ∷ []
+  pub replies : replies_to settings second_passed (delivery.Landed 2 ∷ passed 2 ∷ [])
+      ≡ landed_as (codes "1") ∷ noted ∷ []
   pub landed : status_text settings (after settings second_passed (delivery.Landed 2 ∷ [])) ≡ lines (
       codes "queue core window 3 landed 1" ∷
       codes "     1       101    1      - failing unit=failure docs=running" ∷

@@ -28,7 +28,8 @@ ordered n = with_drawn (record { approval = 0; build = 0; order = n })
 
 -- orders end at 10^15: what would draw one more is refused and changes nothing
 pub record OrdersRunOut : Type 0 where
-  pub last_one : replies_to settings (ordered 999999999999999) (approved 101 ∷ []) ≡ queued (codes "1000000000000000") ∷ []
+  pub last_one : replies_to settings (ordered 999999999999999) (approved 101 ∷ [])
+      ≡ queued (codes "1000000000000000") ∷ []
   pub refused : replies_to settings (ordered last) (approved 101 ∷ approved 102 ∷ []) ≡ exhausted ∷ waiting ∷ []
   pub status : status_text settings (after settings (ordered last) (approved 101 ∷ [])) ≡ lines (
       codes "queue core window 2 landed 0" ∷

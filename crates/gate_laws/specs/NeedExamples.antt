@@ -33,7 +33,8 @@ cycle =
 
 -- changes that need each other wait for good, and so does one that needs itself
 pub record ACycleWaits : Type 0 where
-  pub replies : replies_to settings (start settings) cycle ≡ recorded ∷ recorded ∷ recorded ∷ waiting ∷ waiting ∷ waiting ∷ []
+  pub replies : replies_to settings (start settings) cycle
+      ≡ recorded ∷ recorded ∷ recorded ∷ waiting ∷ waiting ∷ waiting ∷ []
   pub status : status_text settings (begun settings cycle) ≡ lines (
       codes "queue core window 2 landed 0" ∷
       codes "queue web window 2 landed 0" ∷
@@ -114,7 +115,9 @@ pub record AdmissionStartsAnew : Type 0 where
 pub record FootersNameNeeds : Type 0 where
   pub message : needs base (codes "Depends-On: https://forge/c/101\r\ndepends-on:https://forge/c/0102\nDEPENDS-ON:\thttps://forge/c/101 \n Depends-On: https://forge/c/5\nDepends-On: https://forge/c/7")
       ≡ 101 ∷ 7 ∷ []
-  pub in_order : needs base (codes "Mend it\n\nDepends-On: https://forge/c/7\nDepends-On: https://forge/c/101\nDepends-On: https://forge/c/7\n") ≡ 7 ∷ 101 ∷ []
+  pub in_order : needs base (codes
+      "Mend it\n\nDepends-On: https://forge/c/7\nDepends-On: https://forge/c/101\nDepends-On: https://forge/c/7\n")
+      ≡ 7 ∷ 101 ∷ []
   pub counted : map (needs base) (
       codes "Depends-On: https://forge/c/101" ∷
       codes "depends-on:https://forge/c/101" ∷
