@@ -111,7 +111,7 @@ class StandbyTest(unittest.TestCase):
             "first-pack": self.block("standby pack") + "\ncp /root/standby.tar.gz /root/alice.password /srv/git/",
             "second-copy": "cp /srv/git/standby.tar.gz /root/\nchmod 600 /root/standby.tar.gz",
             "second-unpack": self.block("standby unpack"),
-            "second-follow": self.block("both show the same"),
+            "second-follow": next(it for it in self.blocks if it.startswith("until journalctl -u gated-follow ")),
             "second-check": "cd /usr/local/lib/gated && python3 -m companions.check",
             "second-too-early": f"! {taking_over} || {{ echo 'NOT OK: it took over from a gate that runs'; exit 1; }}",
             "first-more": MARK.format("two") + TOLD,
