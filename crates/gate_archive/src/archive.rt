@@ -11,9 +11,10 @@ use std::io::Write;
 /// A book that also answers what is past. No rule of the gate needs that: the queries to a running gate do. Each read
 /// is by key, and touches only the rows that it returns.
 pub trait Archive: Book {
-    ghost use Rattle.std.specs.Prelude.{◌≡◌, false, length, IfErr};
+    ghost use Rattle.std.specs.Prelude.{◌≡◌, false, length};
     ghost use Rattle.gate_types.specs.Tap.{has_failed};
     ghost use Rattle.gate_book_trait.specs.Kept.{OfHeld, IsKept};
+    ghost use Rattle.gate_book_trait.specs.Reading.{IsRead};
     ghost use Rattle.gate_book_trait.specs.Reads.{Answers};
     ghost use Rattle.gate_book_trait.specs.Writes.{Stops};
     ghost use Rattle.gate_archive.specs.ItemText.{left_at, builds_of, last_builds};
@@ -21,17 +22,13 @@ pub trait Archive: Book {
 
     /// The report of the item of a serial that left its queue, and the queue's name.
     fn left(&mut self, serial: Serial) -> Result<Option<LeftItem>, BookFault>
-        ensures found { OfHeld Self.IsTrusted Self.Holds self.old self.new (λ c x.
-            Answers (left_at x.state serial) result) }
-        ensures kept { IsKept Self.IsTrusted Self.Holds Self.LeavesOneOf self.old self.new }
-        ensures fault { IfErr result Self.MayFault };
+        ensures { IsRead Self.IsTrusted Self.Holds Self.LeavesOneOf Self.MayFault self.old self.new (λ c x.
+            Answers (left_at x.state serial) result) result };
 
     /// How many builds of a serial there are, live or not.
     fn build_count(&mut self, serial: Serial) -> Result<u64, BookFault>
-        ensures found { OfHeld Self.IsTrusted Self.Holds self.old self.new (λ c x.
-            Answers (length (builds_of x.state serial)) result) }
-        ensures kept { IsKept Self.IsTrusted Self.Holds Self.LeavesOneOf self.old self.new }
-        ensures fault { IfErr result Self.MayFault };
+        ensures { IsRead Self.IsTrusted Self.Holds Self.LeavesOneOf Self.MayFault self.old self.new (λ c x.
+            Answers (length (builds_of x.state serial)) result) result };
 
     /// The last builds of a serial, live or not, by number, no more than `most`.
     fn last_builds(
@@ -39,10 +36,8 @@ pub trait Archive: Book {
         serial: Serial,
         most: u32,
     ) -> Result<Sequence<BuildSummary>, BookFault>
-        ensures found { OfHeld Self.IsTrusted Self.Holds self.old self.new (λ c x.
-            Answers (last_builds x.state serial most) result) }
-        ensures kept { IsKept Self.IsTrusted Self.Holds Self.LeavesOneOf self.old self.new }
-        ensures fault { IfErr result Self.MayFault };
+        ensures { IsRead Self.IsTrusted Self.Holds Self.LeavesOneOf Self.MayFault self.old self.new (λ c x.
+            Answers (last_builds x.state serial most) result) result };
 
     /// Writes the front and then the history text of a queue from place `from` on, at most 1,000 reports, each line
     /// while its report is read. The first of them, or that there is none, is read before the first byte is written: so

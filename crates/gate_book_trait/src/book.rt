@@ -23,6 +23,7 @@ pub trait Book {
     ghost use Rattle.gate_book_trait.specs.Reads as read;
     ghost use Rattle.gate_types.specs.Tap.{has_failed};
     ghost use Rattle.gate_book_trait.specs.Kept.{OfHeld, IsKept, IsApplied};
+    ghost use Rattle.gate_book_trait.specs.Reading.{IsRead};
     ghost use Rattle.gate_book_trait.specs.Writes.{WritesHistory, Stops};
 
     // While it answers at all, it answers by this content, under these settings.
@@ -39,88 +40,65 @@ pub trait Book {
 
     /// What is kept under an id.
     fn delivery(&mut self, id: &Id) -> Result<Option<Kept>, BookFault>
-        ensures found { OfHeld IsTrusted Holds self.old self.new (λ c x. read.Answers (kept_for id.now x.kept) result) }
-        ensures kept { IsKept IsTrusted Holds LeavesOneOf self.old self.new }
-        ensures fault { IfErr result MayFault };
+        ensures { IsRead IsTrusted Holds LeavesOneOf MayFault self.old self.new (λ c x.
+            read.Answers (kept_for id.now x.kept) result) result };
 
     /// What is known of a change.
     fn change(&mut self, number: ChangeNo) -> Result<Option<Change>, BookFault>
-        ensures found { OfHeld IsTrusted Holds self.old self.new (λ c x.
-            read.Answers (known_change x.state number) result) }
-        ensures kept { IsKept IsTrusted Holds LeavesOneOf self.old self.new }
-        ensures fault { IfErr result MayFault };
+        ensures { IsRead IsTrusted Holds LeavesOneOf MayFault self.old self.new (λ c x.
+            read.Answers (known_change x.state number) result) result };
 
     /// How many items of a queue may be tested at once, 0 where all may; None where there is no such queue.
     fn window(&mut self, queue: &Name) -> Result<Option<u32>, BookFault>
-        ensures found { OfHeld IsTrusted Holds self.old self.new (λ c x.
-            read.Answers (read.window_of x.state queue.now) result) }
-        ensures kept { IsKept IsTrusted Holds LeavesOneOf self.old self.new }
-        ensures fault { IfErr result MayFault };
+        ensures { IsRead IsTrusted Holds LeavesOneOf MayFault self.old self.new (λ c x.
+            read.Answers (read.window_of x.state queue.now) result) result };
 
     /// How many items a queue has, 0 where there is no such queue.
     fn item_count(&mut self, queue: &Name) -> Result<u64, BookFault>
-        ensures found { OfHeld IsTrusted Holds self.old self.new (λ c x.
-            read.Answers (read.item_count c x.state queue.now) result) }
-        ensures kept { IsKept IsTrusted Holds LeavesOneOf self.old self.new }
-        ensures fault { IfErr result MayFault };
+        ensures { IsRead IsTrusted Holds LeavesOneOf MayFault self.old self.new (λ c x.
+            read.Answers (read.item_count c x.state queue.now) result) result };
 
     /// How many landings a queue has, 0 where there is no such queue.
     fn landing_count(&mut self, queue: &Name) -> Result<u64, BookFault>
-        ensures found { OfHeld IsTrusted Holds self.old self.new (λ c x.
-            read.Answers (read.landing_count x.state queue.now) result) }
-        ensures kept { IsKept IsTrusted Holds LeavesOneOf self.old self.new }
-        ensures fault { IfErr result MayFault };
+        ensures { IsRead IsTrusted Holds LeavesOneOf MayFault self.old self.new (λ c x.
+            read.Answers (read.landing_count x.state queue.now) result) result };
 
     /// How many reports a queue has made, 0 where there is no such queue.
     fn reports(&mut self, queue: &Name) -> Result<u64, BookFault>
-        ensures found { OfHeld IsTrusted Holds self.old self.new (λ c x.
-            read.Answers (read.reports_in x.state queue.now) result) }
-        ensures kept { IsKept IsTrusted Holds LeavesOneOf self.old self.new }
-        ensures fault { IfErr result MayFault };
+        ensures { IsRead IsTrusted Holds LeavesOneOf MayFault self.old self.new (λ c x.
+            read.Answers (read.reports_in x.state queue.now) result) result };
 
     /// The number of a queue's landings with a lower serial.
     fn landing_before(&mut self, queue: &Name, serial: Serial) -> Result<u64, BookFault>
-        ensures found { OfHeld IsTrusted Holds self.old self.new (λ c x.
-            read.Answers (read.landings_before x.state queue.now serial) result) }
-        ensures kept { IsKept IsTrusted Holds LeavesOneOf self.old self.new }
-        ensures fault { IfErr result MayFault };
+        ensures { IsRead IsTrusted Holds LeavesOneOf MayFault self.old self.new (λ c x.
+            read.Answers (read.landings_before x.state queue.now serial) result) result };
 
     /// The items of a queue, front to back.
     fn items(&mut self, queue: &Name) -> Result<Sequence<Item>, BookFault>
-        ensures found { OfHeld IsTrusted Holds self.old self.new (λ c x.
-            read.Answers (read.items_in c x.state queue.now) result) }
-        ensures kept { IsKept IsTrusted Holds LeavesOneOf self.old self.new }
-        ensures fault { IfErr result MayFault };
+        ensures { IsRead IsTrusted Holds LeavesOneOf MayFault self.old self.new (λ c x.
+            read.Answers (read.items_in c x.state queue.now) result) result };
 
     /// The item of a serial.
     fn item(&mut self, serial: Serial) -> Result<Option<Item>, BookFault>
-        ensures found { OfHeld IsTrusted Holds self.old self.new (λ c x.
-            read.Answers (read.item_at c x.state serial) result) }
-        ensures kept { IsKept IsTrusted Holds LeavesOneOf self.old self.new }
-        ensures fault { IfErr result MayFault };
+        ensures { IsRead IsTrusted Holds LeavesOneOf MayFault self.old self.new (λ c x.
+            read.Answers (read.item_at c x.state serial) result) result };
 
     /// The item of a change, and its queue.
     fn queued(&mut self, change: ChangeNo) -> Result<Option<QueuedItem>, BookFault>
-        ensures found { OfHeld IsTrusted Holds self.old self.new (λ c x.
-            read.Answers (read.queued_of c x.state change) result) }
-        ensures kept { IsKept IsTrusted Holds LeavesOneOf self.old self.new }
-        ensures fault { IfErr result MayFault };
+        ensures { IsRead IsTrusted Holds LeavesOneOf MayFault self.old self.new (λ c x.
+            read.Answers (read.queued_of c x.state change) result) result };
 
     /// The first item of a queue with a higher serial than `above`.
     fn next_item(&mut self, queue: &Name, above: u64) -> Result<Option<Item>, BookFault>
-        ensures found { OfHeld IsTrusted Holds self.old self.new (λ c x.
-            read.Answers (read.first_above above (read.items_in c x.state queue.now)) result) }
-        ensures rises { IfOk result (λ found. IfSome found (λ i. above < i.serial)) }
-        ensures kept { IsKept IsTrusted Holds LeavesOneOf self.old self.new }
-        ensures fault { IfErr result MayFault };
+        ensures reads { IsRead IsTrusted Holds LeavesOneOf MayFault self.old self.new (λ c x.
+            read.Answers (read.first_above above (read.items_in c x.state queue.now)) result) result }
+        ensures rises { IfOk result (λ found. IfSome found (λ i. above < i.serial)) };
 
     /// The last item of a queue with a lower serial than `below`.
     fn last_item(&mut self, queue: &Name, below: u64) -> Result<Option<Item>, BookFault>
-        ensures found { OfHeld IsTrusted Holds self.old self.new (λ c x.
-            read.Answers (read.last_below below (read.items_in c x.state queue.now)) result) }
-        ensures falls { IfOk result (λ found. IfSome found (λ i. i.serial < below)) }
-        ensures kept { IsKept IsTrusted Holds LeavesOneOf self.old self.new }
-        ensures fault { IfErr result MayFault };
+        ensures reads { IsRead IsTrusted Holds LeavesOneOf MayFault self.old self.new (λ c x.
+            read.Answers (read.last_below below (read.items_in c x.state queue.now)) result) result }
+        ensures falls { IfOk result (λ found. IfSome found (λ i. i.serial < below)) };
 
     /// The first items of a queue with higher serials than `above`, front to back, no more than `most`.
     fn next_items(
@@ -129,10 +107,8 @@ pub trait Book {
         above: u64,
         most: u32,
     ) -> Result<Sequence<Item>, BookFault>
-        ensures found { OfHeld IsTrusted Holds self.old self.new (λ c x.
-            read.Answers (read.first_items_above above most (read.items_in c x.state queue.now)) result) }
-        ensures kept { IsKept IsTrusted Holds LeavesOneOf self.old self.new }
-        ensures fault { IfErr result MayFault };
+        ensures { IsRead IsTrusted Holds LeavesOneOf MayFault self.old self.new (λ c x.
+            read.Answers (read.first_items_above above most (read.items_in c x.state queue.now)) result) result };
 
     /// The items of a queue with higher serials than `above` whose changes need this one, front to back.
     fn needing(
@@ -141,24 +117,18 @@ pub trait Book {
         change: ChangeNo,
         above: u64,
     ) -> Result<Sequence<Item>, BookFault>
-        ensures found { OfHeld IsTrusted Holds self.old self.new (λ c x.
-            read.Answers (read.items_needing x.state change above (read.items_in c x.state queue.now)) result) }
-        ensures kept { IsKept IsTrusted Holds LeavesOneOf self.old self.new }
-        ensures fault { IfErr result MayFault };
+        ensures { IsRead IsTrusted Holds LeavesOneOf MayFault self.old self.new (λ c x.
+            read.Answers (read.items_needing x.state change above (read.items_in c x.state queue.now)) result) result };
 
     /// The plan under a serial, of an item or of a landing.
     fn plan(&mut self, serial: Serial) -> Result<Option<Plan>, BookFault>
-        ensures found { OfHeld IsTrusted Holds self.old self.new (λ c x.
-            read.Answers (read.plan_at x.state serial) result) }
-        ensures kept { IsKept IsTrusted Holds LeavesOneOf self.old self.new }
-        ensures fault { IfErr result MayFault };
+        ensures { IsRead IsTrusted Holds LeavesOneOf MayFault self.old self.new (λ c x.
+            read.Answers (read.plan_at x.state serial) result) result };
 
     /// The live builds of a serial, by number.
     fn live_builds(&mut self, serial: Serial) -> Result<Sequence<Build>, BookFault>
-        ensures found { OfHeld IsTrusted Holds self.old self.new (λ c x.
-            read.Answers (read.live_builds x.state serial) result) }
-        ensures kept { IsKept IsTrusted Holds LeavesOneOf self.old self.new }
-        ensures fault { IfErr result MayFault };
+        ensures { IsRead IsTrusted Holds LeavesOneOf MayFault self.old self.new (λ c x.
+            read.Answers (read.live_builds x.state serial) result) result };
 
     /// The plans of a queue's items with serials above `above` up to `last`, front to back.
     fn plans_between(
@@ -167,11 +137,9 @@ pub trait Book {
         above: u64,
         last: Serial,
     ) -> Result<Sequence<Plan>, BookFault>
-        ensures found { OfHeld IsTrusted Holds self.old self.new (λ c x.
+        ensures { IsRead IsTrusted Holds LeavesOneOf MayFault self.old self.new (λ c x.
             let items = read.items_between above last (read.items_in c x.state queue.now) in
-            read.Answers (read.plans_of_items x.state items) result) }
-        ensures kept { IsKept IsTrusted Holds LeavesOneOf self.old self.new }
-        ensures fault { IfErr result MayFault };
+            read.Answers (read.plans_of_items x.state items) result) result };
 
     /// The live builds of a queue's items with serials above `above` up to `last`, front to back, each item's
     /// by number.
@@ -181,44 +149,34 @@ pub trait Book {
         above: u64,
         last: Serial,
     ) -> Result<Sequence<Build>, BookFault>
-        ensures found { OfHeld IsTrusted Holds self.old self.new (λ c x.
+        ensures { IsRead IsTrusted Holds LeavesOneOf MayFault self.old self.new (λ c x.
             let items = read.items_between above last (read.items_in c x.state queue.now) in
-            read.Answers (read.builds_of_items x.state items) result) }
-        ensures kept { IsKept IsTrusted Holds LeavesOneOf self.old self.new }
-        ensures fault { IfErr result MayFault };
+            read.Answers (read.builds_of_items x.state items) result) result };
 
     /// The build of a number.
     fn build(&mut self, number: BuildNo) -> Result<Option<Build>, BookFault>
-        ensures found { OfHeld IsTrusted Holds self.old self.new (λ c x.
-            read.Answers (build_of x.state number) result) }
-        ensures kept { IsKept IsTrusted Holds LeavesOneOf self.old self.new }
-        ensures fault { IfErr result MayFault };
+        ensures { IsRead IsTrusted Holds LeavesOneOf MayFault self.old self.new (λ c x.
+            read.Answers (build_of x.state number) result) result };
 
     /// The ready list, in order of approval.
     fn ready(&mut self) -> Result<Sequence<Ready>, BookFault>
-        ensures found { OfHeld IsTrusted Holds self.old self.new (λ c x. read.Answers x.state.ready result) }
-        ensures kept { IsKept IsTrusted Holds LeavesOneOf self.old self.new }
-        ensures fault { IfErr result MayFault };
+        ensures { IsRead IsTrusted Holds LeavesOneOf MayFault self.old self.new (λ c x.
+            read.Answers x.state.ready result) result };
 
     /// The number of a change's approval, while it is ready.
     fn approval(&mut self, change: ChangeNo) -> Result<Option<u64>, BookFault>
-        ensures found { OfHeld IsTrusted Holds self.old self.new (λ c x.
-            read.Answers (approval_of x.state.ready change) result) }
-        ensures kept { IsKept IsTrusted Holds LeavesOneOf self.old self.new }
-        ensures fault { IfErr result MayFault };
+        ensures { IsRead IsTrusted Holds LeavesOneOf MayFault self.old self.new (λ c x.
+            read.Answers (approval_of x.state.ready change) result) result };
 
     /// The ready changes that need this one, in order of approval.
     fn ready_needing(&mut self, change: ChangeNo) -> Result<Sequence<Ready>, BookFault>
-        ensures found { OfHeld IsTrusted Holds self.old self.new (λ c x.
-            read.Answers (read.ready_needing x.state change) result) }
-        ensures kept { IsKept IsTrusted Holds LeavesOneOf self.old self.new }
-        ensures fault { IfErr result MayFault };
+        ensures { IsRead IsTrusted Holds LeavesOneOf MayFault self.old self.new (λ c x.
+            read.Answers (read.ready_needing x.state change) result) result };
 
     /// The last number drawn of each kind.
     fn counters(&mut self) -> Result<Counters, BookFault>
-        ensures found { OfHeld IsTrusted Holds self.old self.new (λ c x. read.Answers x.state.counters result) }
-        ensures kept { IsKept IsTrusted Holds LeavesOneOf self.old self.new }
-        ensures fault { IfErr result MayFault };
+        ensures { IsRead IsTrusted Holds LeavesOneOf MayFault self.old self.new (λ c x.
+            read.Answers x.state.counters result) result };
 
     /// Writes the front and then the history text of a queue, each line while its report is read, so that however long
     /// the history is, one line is held. The first report, or that there is none, is read before the first byte is

@@ -151,9 +151,9 @@ fn push_if(staying: bool, all: &mut Vec<Edit>, edit: Edit) -> Result<(), NoMemor
     Ok(())
 }
 
-/// The edits that a delivery makes, in their order: they lead to the same tables. An edit that a later one replaces isn't
-/// made; a put behind which only the stage of the change is set is. Nor is the put of a change that was made ready and entered at once, since its row stands. It goes from the
-/// back, so that the cost is that of a look-up for each edit.
+/// The edits that a delivery makes, in their order; they lead to the same tables. Left out is an edit that a later one
+/// replaces, but not a put after which only the stage of its change is set. So is the put of a change that was made
+/// ready and entered at once, since its row stands. It goes from the back, so that each edit costs one look-up.
 pub(crate) fn thinned(
     alloc: Global,
     newly_ready: &Option<ChangeNo>,

@@ -1,11 +1,12 @@
 -- When a book over another one holds a content, and what its calls promise.
-use Rattle.std.specs.Prelude.{◌≡◌, List, Result, IfErr}
+use Rattle.std.specs.Prelude.{◌≡◌, List, Result}
 use Rattle.gate_types.specs.Settings.{Settings}
 use Rattle.gate_types.specs.Once.{Content}
 use Rattle.gate_types.specs.Forms.{IsLawfulContent}
 use Rattle.gate_book_trait.specs.declared.fault.BookFault.{BookFault}
 use Rattle.gate_book_trait.specs.Faults.{MayAnswer}
 use Rattle.gate_book_trait.specs.Kept.{OfHeld, IsKept}
+use Rattle.gate_book_trait.specs.Reading.{IsRead}
 use Rattle.gate_book_trait.specs.Reads.{Answers}
 use Rattle.gate_live.specs.Parts.{Agrees, nothing}
 use Rattle.gate_live.specs.declared.live_book.LiveBook.{LiveBook}
@@ -43,9 +44,9 @@ AreBothKept trusted holds leaves old new =
 
 -- a read answers this of each lawful content that is held, and keeps them; its faults are those of the book below, or
 -- want of memory
-pub record IsReadOfBoth {B T : Type 0} (trusted : B → Type 0) (holds : B → Settings → Content → Type 0)
-    (leaves : B → Settings → List Content → Type 0) (may : BookFault → Type 0) (old new : LiveBook B)
-    (told : Settings → Content → T) (result : Result T BookFault) : Type 0 where
-  pub found : OfBoth trusted holds old new (λ c x. Answers (told c x) result)
-  pub kept : AreBothKept trusted holds leaves old new
-  pub fault : IfErr result (MayAnswer may)
+abbrev pub IsReadOfBoth : {B T : Type 0} → (B → Type 0) → (B → Settings → Content → Type 0) →
+    (B → Settings → List Content → Type 0) → (BookFault → Type 0) → LiveBook B → LiveBook B →
+    (Settings → Content → T) → Result T BookFault → Type 0
+IsReadOfBoth trusted holds leaves may old new told result =
+    IsRead (λ r. trusted r.book) (λ r c x. HoldsBoth holds r c x) (λ r c ys. leaves r.book c ys) (MayAnswer may) old new
+    (λ c x. Answers (told c x) result) result

@@ -5,7 +5,8 @@ ghost use Rattle.gate_types.specs.declared.rows.ChangeRow.{ChangeRow};
 ghost use Rattle.gate_memory.specs.Queues as queue_table;
 ghost use Rattle.gate_book_trait.specs.declared.fault.BookFault.TheVariants as fault;
 ghost use Rattle.gate_book_trait.specs.Faults.{MayAnswer};
-ghost use Rattle.gate_book_trait.specs.Kept.{OfHeld, IsKept};
+ghost use Rattle.gate_book_trait.specs.Kept.{OfHeld};
+ghost use Rattle.gate_book_trait.specs.Reading.{IsRead};
 ghost use Rattle.gate_book_trait.specs.Reads as read;
 ghost use Rattle.gate_book_trait.specs.RowReads.{needing_in};
 ghost use Rattle.gate_live.specs.HeldChanges.{AreRowsOf, AreKeptChanges, changes_held};
@@ -27,11 +28,10 @@ fn read_listed<B: Book>(
     book: &mut B,
     list: &[Ready],
 ) -> Result<Option<HeldChanges>, BookFault>
-    ensures found { OfHeld B.IsTrusted B.Holds book.old book.new (λ c x. list.now ≡ x.state.ready →
-        IfOk result (λ found. IsSomeAnd found (λ held. AreRowsOf (changes_held held) (tables c x).changes))) }
+    ensures reads { IsRead B.IsTrusted B.Holds B.LeavesOneOf (MayAnswer B.MayFault) book.old book.new (λ c x.
+        list.now ≡ x.state.ready →
+        IfOk result (λ found. IsSomeAnd found (λ held. AreRowsOf (changes_held held) (tables c x).changes))) result }
     ensures sound { IfOk result (λ found. IfSome found AreKeptChanges) }
-    ensures kept { IsKept B.IsTrusted B.Holds B.LeavesOneOf book.old book.new }
-    ensures fault { IfErr result (MayAnswer B.MayFault) }
 {
     let mut held = HeldChanges::new(alloc);
     for ready in list {
@@ -52,11 +52,9 @@ pub(crate) fn read_ready<B: Book>(
     alloc: Global,
     book: &mut B,
 ) -> Result<Option<HeldChanges>, BookFault>
-    ensures found { OfHeld B.IsTrusted B.Holds book.old book.new (λ c x.
-        IfOk result (λ found. IsSomeAnd found (λ held. AreRowsOf (changes_held held) (tables c x).changes))) }
+    ensures reads { IsRead B.IsTrusted B.Holds B.LeavesOneOf (MayAnswer B.MayFault) book.old book.new (λ c x.
+        IfOk result (λ found. IsSomeAnd found (λ held. AreRowsOf (changes_held held) (tables c x).changes))) result }
     ensures sound { IfOk result (λ found. IfSome found AreKeptChanges) }
-    ensures kept { IsKept B.IsTrusted B.Holds B.LeavesOneOf book.old book.new }
-    ensures fault { IfErr result (MayAnswer B.MayFault) }
 {
     let list = book.ready()?;
     let held = read_listed(alloc, book, list.as_slice())?;
@@ -74,10 +72,9 @@ fn hold_change<B: Book>(
     ensures rows { OfHeld B.IsTrusted B.Holds book.old book.new (λ c x.
         AreRowsOf (changes_held held.old) (tables c x).changes →
         AreRowsOf (changes_held held.new) (tables c x).changes) }
-    ensures undamaged { OfHeld B.IsTrusted B.Holds book.old book.new (λ c x. IfErr result (λ f. f ≢ fault.Damaged)) }
+    ensures reads { IsRead B.IsTrusted B.Holds B.LeavesOneOf (MayAnswer B.MayFault) book.old book.new (λ c x.
+        IfErr result (λ f. f ≢ fault.Damaged)) result }
     ensures sound { AreKeptChanges held.new }
-    ensures kept { IsKept B.IsTrusted B.Holds B.LeavesOneOf book.old book.new }
-    ensures fault { IfErr result (MayAnswer B.MayFault) }
 {
     if held.has(number) {
         return Ok(true);
@@ -103,10 +100,9 @@ fn hold_changes<B: Book>(
     ensures rows { OfHeld B.IsTrusted B.Holds book.old book.new (λ c x.
         AreRowsOf (changes_held held.old) (tables c x).changes →
         AreRowsOf (changes_held held.new) (tables c x).changes) }
-    ensures undamaged { OfHeld B.IsTrusted B.Holds book.old book.new (λ c x. IfErr result (λ f. f ≢ fault.Damaged)) }
+    ensures reads { IsRead B.IsTrusted B.Holds B.LeavesOneOf (MayAnswer B.MayFault) book.old book.new (λ c x.
+        IfErr result (λ f. f ≢ fault.Damaged)) result }
     ensures sound { AreKeptChanges held.new }
-    ensures kept { IsKept B.IsTrusted B.Holds B.LeavesOneOf book.old book.new }
-    ensures fault { IfErr result (MayAnswer B.MayFault) }
 {
     for item in items {
         if !hold_change(book, held, item.change)? {
@@ -150,16 +146,14 @@ pub(crate) fn needing<B: Book>(
 ) -> Result<Sequence<Item>, BookFault>
     requires kept { AreKeptChanges held.old }
     requires queue { queue_table.IsKept rows.now }
-    ensures found { OfHeld B.IsTrusted B.Holds book.old book.new (λ c x.
+    ensures reads { IsRead B.IsTrusted B.Holds B.LeavesOneOf (MayAnswer B.MayFault) book.old book.new (λ c x.
         AreRowsOf (changes_held held.old) (tables c x).changes →
         (queue_table.rows_of rows.now).items ≡ read.items_in c x.state queue.now →
-        read.Answers (read.items_needing x.state change above (read.items_in c x.state queue.now)) result) }
+        read.Answers (read.items_needing x.state change above (read.items_in c x.state queue.now)) result) result }
     ensures rows { OfHeld B.IsTrusted B.Holds book.old book.new (λ c x.
         AreRowsOf (changes_held held.old) (tables c x).changes →
         AreRowsOf (changes_held held.new) (tables c x).changes) }
     ensures sound { AreKeptChanges held.new }
-    ensures kept { IsKept B.IsTrusted B.Holds B.LeavesOneOf book.old book.new }
-    ensures fault { IfErr result (MayAnswer B.MayFault) }
 {
     if let Some(found) = needing_held(alloc, held, rows, change, above) {
         return Ok(found);

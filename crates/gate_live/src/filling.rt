@@ -5,7 +5,7 @@ ghost use Rattle.gate_types.specs.Tables.{tables};
 ghost use Rattle.gate_types.specs.Keys.{serial_of_item};
 ghost use Rattle.gate_types.specs.Rising.{RisesFrom};
 ghost use Rattle.gate_book_trait.specs.Faults.{MayAnswer};
-ghost use Rattle.gate_book_trait.specs.Kept.{OfHeld, OfHeldUnder, IsKept};
+ghost use Rattle.gate_book_trait.specs.Reading.{IsRead, IsReadUnder};
 ghost use Rattle.gate_book_trait.specs.RowReads.{rows_named};
 ghost use Rattle.gate_live.specs.Live.{live_queue};
 ghost use Rattle.gate_live.specs.Held.{AreKept, IsKeptQueue, IsLiveOf, live_of, queue_of};
@@ -60,11 +60,10 @@ fn read_queue<B: Book>(
     book: &mut B,
     name: &Name,
 ) -> Result<Option<HeldQueue>, BookFault>
-    ensures found { OfHeld B.IsTrusted B.Holds book.old book.new (λ c x. IfOk result (λ found.
-        option_map queue_of found ≡ option_map live_queue (rows_named (tables c x).queues name.now))) }
+    ensures reads { IsRead B.IsTrusted B.Holds B.LeavesOneOf (MayAnswer B.MayFault) book.old book.new (λ c x.
+        IfOk result (λ found. option_map queue_of found
+        ≡ option_map live_queue (rows_named (tables c x).queues name.now))) result }
     ensures sound { IfOk result (λ found. IfSome found IsKeptQueue) }
-    ensures kept { IsKept B.IsTrusted B.Holds B.LeavesOneOf book.old book.new }
-    ensures fault { IfErr result (MayAnswer B.MayFault) }
 {
     let Some(window) = book.window(name)? else {
         return Ok(None);
@@ -83,12 +82,10 @@ fn read_queues<B: Book>(
     book: &mut B,
     settings: &[Queue],
 ) -> Result<Option<Vec<HeldQueue>>, BookFault>
-    ensures found { OfHeld B.IsTrusted B.Holds book.old book.new (λ c x. IfOk result (λ found. IfSome found (λ queues.
-        map Some (map queue_of queues.items) ≡ map (λ r. option_map live_queue (rows_named (tables c x).queues r.name))
-        settings.now))) }
+    ensures reads { IsRead B.IsTrusted B.Holds B.LeavesOneOf (MayAnswer B.MayFault) book.old book.new (λ c x.
+        IfOk result (λ found. IfSome found (λ queues. map Some (map queue_of queues.items)
+        ≡ map (λ r. option_map live_queue (rows_named (tables c x).queues r.name)) settings.now))) result }
     ensures sound { IfOk result (λ found. IfSome found (λ queues. AllByRecursion IsKeptQueue queues.items)) }
-    ensures kept { IsKept B.IsTrusted B.Holds B.LeavesOneOf book.old book.new }
-    ensures fault { IfErr result (MayAnswer B.MayFault) }
 {
     let mut queues = Vec::new(alloc);
     for setting in settings {
@@ -108,11 +105,9 @@ fn read_all<B: Book>(
     book: &mut B,
     config: &Config,
 ) -> Result<Option<Held>, BookFault>
-    ensures found { OfHeldUnder B.IsTrusted B.Holds book.old book.new config.now (λ x.
-        IfOk result (λ held. IsLiveOf (option_map live_of held) config.now x)) }
+    ensures reads { IsReadUnder B.IsTrusted B.Holds B.LeavesOneOf (MayAnswer B.MayFault) book.old book.new config.now
+        (λ x. IfOk result (λ held. IsLiveOf (option_map live_of held) config.now x)) result }
     ensures sound { IfOk result (λ held. IfSome held AreKept) }
-    ensures kept { IsKept B.IsTrusted B.Holds B.LeavesOneOf book.old book.new }
-    ensures fault { IfErr result (MayAnswer B.MayFault) }
 {
     let Some(queues) = read_queues(alloc, book, config.queues.as_slice())? else {
         return Ok(None);

@@ -6,7 +6,8 @@ ghost use Rattle.gate_types.specs.Settings.{Settings};
 ghost use Rattle.gate_types.specs.Forms.{IsLawfulContent};
 ghost use Rattle.gate_types.specs.Tables.{Leads, approval_of};
 ghost use Rattle.gate_book_trait.specs.Faults.{MayAnswer};
-ghost use Rattle.gate_book_trait.specs.Kept.{OfHeld, IsApplied, IsKept};
+ghost use Rattle.gate_book_trait.specs.Kept.{OfHeld, IsApplied};
+ghost use Rattle.gate_book_trait.specs.Reading.{IsRead};
 ghost use Rattle.gate_book_trait.specs.Reads as read;
 ghost use Rattle.gate_live.specs.Live.{fold_live};
 ghost use Rattle.gate_live.specs.Held.{AreKept, IsLiveOf, live_of};
@@ -447,12 +448,11 @@ impl Live {
         change: ChangeNo,
         above: u64,
     ) -> Result<Sequence<Item>, BookFault>
-        ensures found { OfHeld B.IsTrusted B.Holds book.old book.new (λ c x. Agrees self.old c x →
-            read.Answers (read.items_needing x.state change above (read.items_in c x.state queue.now)) result) }
+        ensures reads { IsRead B.IsTrusted B.Holds B.LeavesOneOf (MayAnswer B.MayFault) book.old book.new (λ c x.
+            Agrees self.old c x →
+            read.Answers (read.items_needing x.state change above (read.items_in c x.state queue.now)) result) result }
         ensures agrees { OfHeld B.IsTrusted B.Holds book.old book.new (λ c x.
             Agrees self.old c x → Agrees self.new c x) }
-        ensures kept { IsKept B.IsTrusted B.Holds B.LeavesOneOf book.old book.new }
-        ensures fault { IfErr result (MayAnswer B.MayFault) }
     {
         needing_over(
             alloc,

@@ -1,6 +1,6 @@
 //! The held changes, if any are held: applies edits to them, holds changes that were read, and finds the items that
 //! need one.
-ghost use Rattle.std.specs.Prelude.{◌≡◌, ℕ, List, filter, length, map, option_map, IfErr, IfOk, IfSome, OnOk};
+ghost use Rattle.std.specs.Prelude.{◌≡◌, ℕ, List, filter, length, map, option_map, IfOk, IfSome, OnOk};
 ghost use Rattle.std.specs.List.{AllByRecursion};
 ghost use Rattle.gate_types.specs.Once.{Content};
 ghost use Rattle.gate_types.specs.Settings.{Settings};
@@ -8,7 +8,8 @@ ghost use Rattle.gate_types.specs.declared.rows.ChangeRow.{ChangeRow};
 ghost use Rattle.gate_memory.specs.Needs.{needs_of_all};
 ghost use Rattle.gate_memory.specs.Queues as queue_table;
 ghost use Rattle.gate_book_trait.specs.Faults.{MayAnswer};
-ghost use Rattle.gate_book_trait.specs.Kept.{OfHeld, IsKept};
+ghost use Rattle.gate_book_trait.specs.Kept.{OfHeld};
+ghost use Rattle.gate_book_trait.specs.Reading.{IsRead};
 ghost use Rattle.gate_book_trait.specs.Reads as read;
 ghost use Rattle.gate_book_trait.specs.RowReads.{change_in};
 ghost use Rattle.gate_live.specs.Held.{AreKept, IsKeptQueue, IsLiveOf, live_of, queue_of};
@@ -158,16 +159,14 @@ pub(crate) fn needing_over<B: Book>(
 ) -> Result<Sequence<Item>, BookFault>
     requires held { IfSome held.now AreKept }
     requires kept { IfSome changes.old AreKeptChanges }
-    ensures found { OfHeld B.IsTrusted B.Holds book.old book.new (λ c x.
+    ensures reads { IsRead B.IsTrusted B.Holds B.LeavesOneOf (MayAnswer B.MayFault) book.old book.new (λ c x.
         IsLiveOf (option_map live_of held.now) c x →
         AreChangesOf (option_map changes_held changes.old) c x →
-        read.Answers (read.items_needing x.state change above (read.items_in c x.state queue.now)) result) }
+        read.Answers (read.items_needing x.state change above (read.items_in c x.state queue.now)) result) result }
     ensures rows { OfHeld B.IsTrusted B.Holds book.old book.new (λ c x.
         AreChangesOf (option_map changes_held changes.old) c x →
         AreChangesOf (option_map changes_held changes.new) c x) }
     ensures sound { IfSome changes.new AreKeptChanges }
-    ensures kept { IsKept B.IsTrusted B.Holds B.LeavesOneOf book.old book.new }
-    ensures fault { IfErr result (MayAnswer B.MayFault) }
 {
     let Some(table) = table_of(held, queue) else {
         return Ok(book.needing(queue, change, above)?);

@@ -2,7 +2,8 @@
 ghost use Rattle.std.specs.Prelude.{◌≡◌, ◌≢◌, true, IfErr};
 ghost use Rattle.gate_types.specs.State.{known_change};
 ghost use Rattle.gate_book_trait.specs.Faults.{MayAnswer};
-ghost use Rattle.gate_book_trait.specs.Kept.{OfHeld, IsKept};
+ghost use Rattle.gate_book_trait.specs.Kept.{OfHeld};
+ghost use Rattle.gate_book_trait.specs.Reading.{IsRead};
 ghost use Rattle.gate_book_trait.specs.Reads as read;
 ghost use Rattle.gate_book_trait.specs.declared.fault.BookFault.TheVariants as fault;
 ghost use Rattle.gate_live.specs.Faults.{is_of_store};
@@ -25,11 +26,9 @@ pub(crate) fn read_change<B: Book>(
     live: &mut Live,
     number: ChangeNo,
 ) -> Result<Option<Change>, BookFault>
-    ensures found { OfHeld B.IsTrusted B.Holds book.old book.new (λ c x.
-        read.Answers (known_change x.state number) result) }
+    ensures reads { IsRead B.IsTrusted B.Holds B.LeavesOneOf (MayAnswer B.MayFault) book.old book.new (λ c x.
+        read.Answers (known_change x.state number) result) result }
     ensures agrees { OfHeld B.IsTrusted B.Holds book.old book.new (λ c x. Agrees live.old c x → Agrees live.new c x) }
-    ensures kept { IsKept B.IsTrusted B.Holds B.LeavesOneOf book.old book.new }
-    ensures fault { IfErr result (MayAnswer B.MayFault) }
     ensures drops { IfErr result (λ f. is_of_store f ≡ true → live.new ≡ nothing) }
 {
     let found = told(live, alloc, book.change(number))?;
@@ -45,11 +44,9 @@ pub(crate) fn read_plan<B: Book>(
     live: &mut Live,
     serial: Serial,
 ) -> Result<Option<Plan>, BookFault>
-    ensures found { OfHeld B.IsTrusted B.Holds book.old book.new (λ c x.
-        read.Answers (read.plan_at x.state serial) result) }
+    ensures reads { IsRead B.IsTrusted B.Holds B.LeavesOneOf (MayAnswer B.MayFault) book.old book.new (λ c x.
+        read.Answers (read.plan_at x.state serial) result) result }
     ensures agrees { OfHeld B.IsTrusted B.Holds book.old book.new (λ c x. Agrees live.old c x → Agrees live.new c x) }
-    ensures kept { IsKept B.IsTrusted B.Holds B.LeavesOneOf book.old book.new }
-    ensures fault { IfErr result (MayAnswer B.MayFault) }
     ensures drops { IfErr result (λ f. is_of_store f ≡ true → live.new ≡ nothing) }
 {
     let found = told(live, alloc, book.plan(serial))?;
@@ -64,10 +61,9 @@ fn hold_plan<B: Book>(
     live: &mut Live,
     serial: Serial,
 ) -> Result<(), BookFault>
-    ensures undamaged { OfHeld B.IsTrusted B.Holds book.old book.new (λ c x. IfErr result (λ f. f ≢ fault.Damaged)) }
+    ensures reads { IsRead B.IsTrusted B.Holds B.LeavesOneOf (MayAnswer B.MayFault) book.old book.new (λ c x.
+        IfErr result (λ f. f ≢ fault.Damaged)) result }
     ensures agrees { OfHeld B.IsTrusted B.Holds book.old book.new (λ c x. Agrees live.old c x → Agrees live.new c x) }
-    ensures kept { IsKept B.IsTrusted B.Holds B.LeavesOneOf book.old book.new }
-    ensures fault { IfErr result (MayAnswer B.MayFault) }
     ensures drops { IfErr result (λ f. is_of_store f ≡ true → live.new ≡ nothing) }
 {
     if live.has_plan(serial) {
@@ -84,10 +80,9 @@ fn read_plans_of<B: Book>(
     live: &mut Live,
     items: &[Item],
 ) -> Result<(), BookFault>
-    ensures undamaged { OfHeld B.IsTrusted B.Holds book.old book.new (λ c x. IfErr result (λ f. f ≢ fault.Damaged)) }
+    ensures reads { IsRead B.IsTrusted B.Holds B.LeavesOneOf (MayAnswer B.MayFault) book.old book.new (λ c x.
+        IfErr result (λ f. f ≢ fault.Damaged)) result }
     ensures agrees { OfHeld B.IsTrusted B.Holds book.old book.new (λ c x. Agrees live.old c x → Agrees live.new c x) }
-    ensures kept { IsKept B.IsTrusted B.Holds B.LeavesOneOf book.old book.new }
-    ensures fault { IfErr result (MayAnswer B.MayFault) }
     ensures drops { IfErr result (λ f. is_of_store f ≡ true → live.new ≡ nothing) }
 {
     for item in items {
@@ -108,12 +103,10 @@ pub(crate) fn read_plans_between<B: Book>(
     last: Serial,
     items: &[Item],
 ) -> Result<Sequence<Plan>, BookFault>
-    ensures found { OfHeld B.IsTrusted B.Holds book.old book.new (λ c x. Agrees live.old c x →
-        items.now ≡ read.items_between above last (read.items_in c x.state queue.now) →
-        read.Answers (read.plans_of_items x.state items.now) result) }
+    ensures reads { IsRead B.IsTrusted B.Holds B.LeavesOneOf (MayAnswer B.MayFault) book.old book.new (λ c x.
+        Agrees live.old c x → items.now ≡ read.items_between above last (read.items_in c x.state queue.now) →
+        read.Answers (read.plans_of_items x.state items.now) result) result }
     ensures agrees { OfHeld B.IsTrusted B.Holds book.old book.new (λ c x. Agrees live.old c x → Agrees live.new c x) }
-    ensures kept { IsKept B.IsTrusted B.Holds B.LeavesOneOf book.old book.new }
-    ensures fault { IfErr result (MayAnswer B.MayFault) }
     ensures drops { IfErr result (λ f. is_of_store f ≡ true → live.new ≡ nothing) }
 {
     read_plans_of(alloc, book, live, items)?;
@@ -131,11 +124,9 @@ pub(crate) fn read_builds<B: Book>(
     live: &mut Live,
     serial: Serial,
 ) -> Result<Sequence<Build>, BookFault>
-    ensures found { OfHeld B.IsTrusted B.Holds book.old book.new (λ c x.
-        read.Answers (read.live_builds x.state serial) result) }
+    ensures reads { IsRead B.IsTrusted B.Holds B.LeavesOneOf (MayAnswer B.MayFault) book.old book.new (λ c x.
+        read.Answers (read.live_builds x.state serial) result) result }
     ensures agrees { OfHeld B.IsTrusted B.Holds book.old book.new (λ c x. Agrees live.old c x → Agrees live.new c x) }
-    ensures kept { IsKept B.IsTrusted B.Holds B.LeavesOneOf book.old book.new }
-    ensures fault { IfErr result (MayAnswer B.MayFault) }
     ensures drops { IfErr result (λ f. is_of_store f ≡ true → live.new ≡ nothing) }
 {
     let found = told(live, alloc, book.live_builds(serial))?;
@@ -150,10 +141,9 @@ fn hold_builds<B: Book>(
     live: &mut Live,
     serial: Serial,
 ) -> Result<(), BookFault>
-    ensures undamaged { OfHeld B.IsTrusted B.Holds book.old book.new (λ c x. IfErr result (λ f. f ≢ fault.Damaged)) }
+    ensures reads { IsRead B.IsTrusted B.Holds B.LeavesOneOf (MayAnswer B.MayFault) book.old book.new (λ c x.
+        IfErr result (λ f. f ≢ fault.Damaged)) result }
     ensures agrees { OfHeld B.IsTrusted B.Holds book.old book.new (λ c x. Agrees live.old c x → Agrees live.new c x) }
-    ensures kept { IsKept B.IsTrusted B.Holds B.LeavesOneOf book.old book.new }
-    ensures fault { IfErr result (MayAnswer B.MayFault) }
     ensures drops { IfErr result (λ f. is_of_store f ≡ true → live.new ≡ nothing) }
 {
     if live.knows(serial) {
@@ -170,10 +160,9 @@ fn read_builds_of<B: Book>(
     live: &mut Live,
     items: &[Item],
 ) -> Result<(), BookFault>
-    ensures undamaged { OfHeld B.IsTrusted B.Holds book.old book.new (λ c x. IfErr result (λ f. f ≢ fault.Damaged)) }
+    ensures reads { IsRead B.IsTrusted B.Holds B.LeavesOneOf (MayAnswer B.MayFault) book.old book.new (λ c x.
+        IfErr result (λ f. f ≢ fault.Damaged)) result }
     ensures agrees { OfHeld B.IsTrusted B.Holds book.old book.new (λ c x. Agrees live.old c x → Agrees live.new c x) }
-    ensures kept { IsKept B.IsTrusted B.Holds B.LeavesOneOf book.old book.new }
-    ensures fault { IfErr result (MayAnswer B.MayFault) }
     ensures drops { IfErr result (λ f. is_of_store f ≡ true → live.new ≡ nothing) }
 {
     for item in items {
@@ -195,12 +184,10 @@ pub(crate) fn read_builds_between<B: Book>(
     last: Serial,
     items: &[Item],
 ) -> Result<Sequence<Build>, BookFault>
-    ensures found { OfHeld B.IsTrusted B.Holds book.old book.new (λ c x. Agrees live.old c x →
-        items.now ≡ read.items_between above last (read.items_in c x.state queue.now) →
-        read.Answers (read.builds_of_items x.state items.now) result) }
+    ensures reads { IsRead B.IsTrusted B.Holds B.LeavesOneOf (MayAnswer B.MayFault) book.old book.new (λ c x.
+        Agrees live.old c x → items.now ≡ read.items_between above last (read.items_in c x.state queue.now) →
+        read.Answers (read.builds_of_items x.state items.now) result) result }
     ensures agrees { OfHeld B.IsTrusted B.Holds book.old book.new (λ c x. Agrees live.old c x → Agrees live.new c x) }
-    ensures kept { IsKept B.IsTrusted B.Holds B.LeavesOneOf book.old book.new }
-    ensures fault { IfErr result (MayAnswer B.MayFault) }
     ensures drops { IfErr result (λ f. is_of_store f ≡ true → live.new ≡ nothing) }
 {
     read_builds_of(alloc, book, live, items)?;

@@ -13,14 +13,14 @@ returns-in_default-clause-serial g c = λ trusted s x holds lawful.
     sym c.in_default.is ∙ c.later.ensures.value
     ∙ (λ i. later (c.last_put_below-put.ensures.value i) (c.serial_of.ensures i))
     ∙ ap (λ o. later (last_put_below c.args.queue.now c.args.below c.args.edits.now) (option_map (λ i. i.serial) o))
-    (c.in_ok-stored.ensures.found trusted s x holds lawful)
+    (c.in_ok-stored.ensures.reads.found trusted s x holds lawful)
 
 pub returns-clause-serial : goal.returns-clause-serial
 returns-clause-serial g c = λ trusted s x holds lawful.
     sym c.in-Some.is ∙ c.later.ensures.value
     ∙ (λ i. later (c.last_put_below-put.ensures.value i) (c.serial_of.ensures i))
     ∙ ap (λ o. later (last_put_below c.args.queue.now c.args.below c.args.edits.now) (option_map (λ i. i.serial) o))
-    (c.in_ok-stored.ensures.found trusted s x holds lawful)
+    (c.in_ok-stored.ensures.reads.found trusted s x holds lawful)
 
 pub returns-clause-falls : goal.returns-clause-falls
 returns-clause-falls g c =
@@ -38,7 +38,7 @@ returns-clause-item g c = λ trusted s x holds lawful.
     let rows = items_in s x.state name in
     let k = c.in-Some.serial in
     let put = last_put_below name c.args.below c.args.edits.now in
-    let stored = c.in_ok-stored.ensures.found trusted s x holds lawful in
+    let stored = c.in_ok-stored.ensures.reads.found trusted s x holds lawful in
     let told = sym (λ i. later (c.last_put_below-put.ensures.value i) (c.serial_of.ensures i))
     ∙ sym c.later.ensures.value ∙ c.in-Some.is in
     let low = subst (λ o. IfSome o (λ n. n < c.args.below)) told

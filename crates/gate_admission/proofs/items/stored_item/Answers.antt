@@ -11,7 +11,7 @@ pub returns : goal.returns
 returns g c = is_read (λ trusted s x holds lawful.
     let rows = items_in s x.state c.args.queue.now in
     c.at_serial.ensures
-    ∙ ap (option_and_then (if_at c.args.serial)) (c.in_ok-next_item.ensures.found trusted s x holds lawful
+    ∙ ap (option_and_then (if_at c.args.serial)) (c.in_ok-next_item.ensures.reads.found trusted s x holds lawful
     ∙ ap (λ n. first_above (n - 1) rows) c.get.ensures.value)
     ∙ sym (at_by_above c.args.serial rows c.get.ensures.range.0
     (items_rise s x.state c.args.queue.now lawful.lawful.sound)))

@@ -6,8 +6,8 @@ loop-item-preserved g c =
     let before = c.loop-item.invariant in
     let read = c.in_ok-hold_builds.ensures in
     record {
-      kept = then before.kept read.kept;
+      kept = then before.kept read.reads.kept;
       agrees = λ trusted k x holds lawful old.
-          let early = read.kept.trusted_before trusted in
+          let early = read.reads.kept.trusted_before trusted in
           read.agrees trusted k x (before.kept.holds_on early k x holds) lawful (before.agrees early k x holds lawful old);
     }

@@ -12,7 +12,7 @@ returns-then-not-is_out-clause-reads g c = is_read (λ trusted s x holds lawful 
 pub returns-clause-reads : goal.returns-clause-reads
 returns-clause-reads g c = is_read (λ trusted s x holds lawful h.
     let k = c.args.touched.now in
-    c.in_ok-row.ensures.found trusted s x holds lawful
+    c.in_ok-row.ensures.reads.found trusted s x holds lawful
     ∙ ap (λ n. first_above n (items_in s x.state k.queue)) c.get.ensures.value
     ∙ ap (λ b. first_above (cond b k.item.serial (k.item.serial - 1)) (items_in s x.state k.queue))
     (sym (sym c.is_out.ensures ∙ c.if-not-is_out.false)))

@@ -19,20 +19,20 @@ along-init g c = record {
 
 pub along-preserved : goal.along-preserved
 along-preserved g c = record {
-  kept = then (then c.along.invariant.kept c.in_ok-item.ensures.kept) c.in_ok-line.ensures.kept;
+  kept = then (then c.along.invariant.kept c.in_ok-item.ensures.reads.kept) c.in_ok-line.ensures.kept;
   shown = λ trusted x holds lawful q named.
       let s = x.state in
       let config = c.args.config.now in
       let name = c.args.queue.now in
       let row = c.in-Some.item in
       let before = c.in_ok-line.ensures.kept.trusted_before trusted in
-      let start = c.in_ok-item.ensures.kept.trusted_before before in
+      let start = c.in_ok-item.ensures.reads.kept.trusted_before before in
       let held = c.along.invariant.kept.holds_on start _ x holds in
       let some = ap (first_above c.along.above) (sym (rows_are config s name q named))
-      ∙ sym (c.in_ok-item.ensures.found before _ x held lawful) ∙ c.in-Some.is in
+      ∙ sym (c.in_ok-item.ensures.reads.found before _ x held lawful) ∙ c.in-Some.is in
       let shown = c.along.invariant.shown start x holds lawful q named in
       let next = next_row config s q c.along.above c.along.ahead (string_bytes c.along.text) row shown some in
-      let line = c.in_ok-line.ensures.found trusted x (c.in_ok-item.ensures.kept.holds_on before _ x held) lawful
+      let line = c.in_ok-line.ensures.found trusted x (c.in_ok-item.ensures.reads.kept.holds_on before _ x held) lawful
       name q (place_next next) (subst (λ a. IsBehind config s name a row q (place_next next)) (sym c.as_slice.ensures)
       (behind_next name named shown next)) in
       shown_next shown next c.get-above.result c.push_unless_failing.new.ahead (string_bytes c.in_ok-line.line)
@@ -44,10 +44,10 @@ pub returns : goal.returns
 returns g c = is_read_under (λ trusted x holds lawful q named.
     let s = x.state in
     let config = c.args.config.now in
-    let start = c.in_ok-item.ensures.kept.trusted_before trusted in
+    let start = c.in_ok-item.ensures.reads.kept.trusted_before trusted in
     let held = c.along.invariant.kept.holds_on start _ x holds in
     shown_end config s q c.along.above c.along.ahead (string_bytes c.along.text)
     (c.along.invariant.shown start x holds lawful q named)
     (ap (first_above c.along.above) (sym (rows_are config s c.args.queue.now q named))
-    ∙ sym (c.in_ok-item.ensures.found trusted _ x held lawful) ∙ c.in_default.is))
+    ∙ sym (c.in_ok-item.ensures.reads.found trusted _ x held lawful) ∙ c.in_default.is))
     (search rules) (search rules)

@@ -1,10 +1,11 @@
-use Rattle.std.proofs.Common.{◌≡◌, ◌∙◌, List, ap, ◌<◌, true, None}
+use Rattle.std.proofs.Common.{◌≡◌, ◌∙◌, List, ap, ◌<◌, true, None, rules}
 use Rattle.std.specs.Prelude.{nat_lt}
 use borrow.Author.Tests.{ltb-true}
 use Rattle.gate_types.specs.declared.records.Item.{Item}
 use Rattle.gate_types.specs.Tables.{Tables}
 use Rattle.gate_book_trait.specs.Reads as read
 use Rattle.gate_book_trait.specs.RowReads.{items_named}
+use Rattle.gate_book_trait.proofs.ReadingLemmas.{is_read}
 use Rattle.gate_book.specs.Memory.{Held}
 use Rattle.gate_book_trait.proofs.ReadLemmas.{items_are, last_passes, weaker_if}
 use Rattle.gate_book.proofs.MemoryLemmas.{items_in}
@@ -12,9 +13,10 @@ use Rattle.std.specs.Option.{option_copied}
 use Rattle.gate_memory.specs.Named.{items_found}
 use Rattle.gate_book.proofs.memory.MemBookBook.last_item.Goals as goal
 
-pub returns-clause-found : goal.returns-clause-found
-returns-clause-found c _ s x held lawful =
-    c.last_item.ensures ∙ ap (read.last_below c.args.below) (ap items_in c.queue_named.ensures.found ∙ ap (λ (t : Tables). items_named t.queues c.args.queue.now) (ap (λ (m : Held). m.tables) (c.self.view_is ∙ held)) ∙ items_are s x c.args.queue.now)
+pub returns-clause-reads : goal.returns-clause-reads
+returns-clause-reads c = is_read (λ _ s x held lawful.
+    c.last_item.ensures ∙ ap (read.last_below c.args.below) (ap items_in c.queue_named.ensures.found ∙ ap (λ (t : Tables). items_named t.queues c.args.queue.now) (ap (λ (m : Held). m.tables) (c.self.view_is ∙ held)) ∙ items_are s x c.args.queue.now))
+    (search rules) (search rules)
 
 pub returns-clause-falls : goal.returns-clause-falls
 returns-clause-falls c =
