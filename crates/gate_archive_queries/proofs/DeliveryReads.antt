@@ -39,12 +39,12 @@ use Rattle.gate_schema.specs.Rows.{IsNumbered, Stored, kept_columns}
 use Rattle.gate_schema.specs.Schema.{gate_schema}
 use Rattle.gate_schema.proofs.DeleteLemmas.{is_its, filter_same_on}
 use Rattle.gate_schema.proofs.QueryLemmas.{over_table, passes, shows_in_order}
-use Rattle.gate_schema.proofs.Statements.{Asks, key_is, no_limit}
+use Rattle.gate_schema.proofs.Statements.{Asks, key_is, no_limit, rising}
 use Rattle.gate_schema.proofs.ValueLemmas.{equal_blobs}
 use Rattle.gate_found_rows.specs.Finds.{Finds, IsPlainQuery}
 use Rattle.gate_found_rows.specs.Reads.{IsShown}
-use Rattle.gate_found_rows.proofs.KeyedReads.{rising, truth_of}
-use Rattle.gate_found_rows.proofs.ListedReads.{told_behind}
+use Rattle.gate_found_rows.proofs.KeyedReads.{truth_of}
+use Rattle.gate_schema.proofs.ListedQueries.{told_behind}
 use Rattle.gate_found_rows.proofs.ReadLemmas.{answers}
 use Rattle.gate_archive_queries.specs.Deliveries.{HoldAbove, IsFirstOf, IsPlaceOf, WritesLines, accepted}
 use Rattle.gate_archive_queries.specs.Deliveries.{accepted_shown, is_above, line_of}

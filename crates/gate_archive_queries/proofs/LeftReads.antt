@@ -17,12 +17,11 @@ use Rattle.gate_types.specs.Forms.{is_change_number, is_drawn_number, is_revisio
 use Rattle.gate_types.specs.Names.{is_name}
 use Rattle.gate_schema.specs.Rows.{QueueReport, Stored, report_columns}
 use Rattle.gate_schema.proofs.QueryLemmas.{over_table, passes}
-use Rattle.gate_schema.proofs.Statements.{Asks, key_is, no_limit}
+use Rattle.gate_schema.proofs.Statements.{Asks, key_is, no_limit, rising}
 use Rattle.gate_schema.proofs.ValueLemmas.{equal_numbers}
 use Rattle.gate_found_rows.specs.Finds.{Finds}
 use Rattle.gate_found_rows.specs.Reads.{IsShown}
-use Rattle.gate_found_rows.proofs.KeyedReads.{rising}
-use Rattle.gate_found_rows.proofs.ListedReads.{listed_in_turn, told_behind}
+use Rattle.gate_schema.proofs.ListedQueries.{listed_in_turn, told_behind}
 use Rattle.gate_found_rows.proofs.ReadLemmas.{answers}
 use Rattle.gate_archive_queries.specs.Asked.{is_left_in_form, left_shown}
 

@@ -9,9 +9,8 @@ use Rattle.sqlite_sql.specs.declared.ops.BinaryOp.TheVariants.{Compare}
 use Rattle.sqlite_sql.specs.declared.ops.CompareOp.TheVariants.{Eq}
 use Rattle.sqlite_tied.specs.Compute.{everything}
 use Rattle.gate_schema.proofs.QueryLemmas.{over_table}
-use Rattle.gate_schema.proofs.Statements.{Asks, key_is, no_limit}
+use Rattle.gate_schema.proofs.Statements.{Asks, key_is, no_limit, rising}
 use Rattle.gate_build_queries.proofs.BetweenReads.{between_query}
-use Rattle.gate_found_rows.proofs.KeyedReads.{rising}
 
 -- what they show: all columns
 abbrev pub build_terms : List Term

@@ -31,7 +31,8 @@ use Rattle.gate_change_queries.proofs.ChangeTexts.{approval_asks, approval_query
 use Rattle.gate_change_queries.proofs.ChangeTexts.{change_names, change_query, change_sql, change_terms, needs_asks}
 use Rattle.gate_change_queries.proofs.ChangeTexts.{needs_query, needs_sql}
 use Rattle.gate_found_rows.proofs.KeyedReads.{finds_few, one_at}
-use Rattle.gate_found_rows.proofs.ListedReads.{listed_rising, told_behind}
+use Rattle.gate_schema.proofs.ListedQueries.{told_behind}
+use Rattle.gate_found_rows.proofs.ListedReads.{listed_rising}
 use Rattle.gate_found_rows.proofs.ReadLemmas.{answers}
 use Rattle.gate_found_rows.proofs.ShownLemmas.{pass_filter}
 

@@ -31,16 +31,13 @@ use Rattle.sqlite_value.specs.declared.keys.Collation.{Collation}
 use Rattle.sqlite_value.specs.declared.keys.Key.{Key}
 use Rattle.gate_schema.specs.Rows.{IsKeyed}
 use Rattle.gate_schema.proofs.QueryLemmas.{kept_is, over_table, passes, shows_few, shows_in_order}
+use Rattle.gate_schema.proofs.Statements.{rising}
 use Rattle.gate_schema.proofs.ValueLemmas.{value_cmp-pos}
 use Rattle.gate_found_rows.proofs.ListFacts.{passing}
 
 -- greatest first
 abbrev pub descending : Collation → Key
 descending c = record { collation = c; descending = true }
-
--- by rising rowid
-abbrev pub rising : List (Term × Key)
-rising = (col 1 0, ascending Binary) ∷ []
 
 -- by falling rowid
 abbrev pub falling : List (Term × Key)

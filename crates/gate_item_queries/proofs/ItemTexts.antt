@@ -12,9 +12,9 @@ use Rattle.sqlite_value.specs.Keys.{ascending}
 use Rattle.sqlite_value.specs.declared.keys.Collation.{Collation}
 use Rattle.sqlite_value.specs.declared.keys.Key.{Key}
 use Rattle.gate_schema.proofs.QueryLemmas.{over_table}
-use Rattle.gate_schema.proofs.Statements.{Asks, key_is, no_limit, one_row}
+use Rattle.gate_schema.proofs.Statements.{Asks, key_is, no_limit, one_row, rising}
 use Rattle.gate_found_rows.proofs.JoinLemmas.{over_tables}
-use Rattle.gate_found_rows.proofs.KeyedReads.{falling, rising}
+use Rattle.gate_found_rows.proofs.KeyedReads.{falling}
 
 -- what they show: an item, and its queue
 abbrev pub item_terms : List Term

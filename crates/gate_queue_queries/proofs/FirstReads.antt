@@ -37,13 +37,13 @@ use Rattle.gate_schema.specs.Rows.{ItemRow, QueueLanding, Stored, change_key, ch
 use Rattle.gate_schema.specs.Rows.{item_table_row}
 use Rattle.gate_schema.specs.Rows.{landing_columns}
 use Rattle.gate_schema.proofs.QueryLemmas.{kept_is, over_table, passes}
-use Rattle.gate_schema.proofs.Statements.{key_is, no_limit}
+use Rattle.gate_schema.proofs.Statements.{key_is, no_limit, rising}
 use Rattle.gate_schema.proofs.ValueLemmas.{equal_numbers, equal_texts}
 use Rattle.gate_found_rows.specs.Finds.{Finds, IsPlainQuery, Stays}
 use Rattle.gate_queue_queries.specs.First.{HoldsLandings, IsProjectOf, ShowsFirst, first_schema, pair_shown}
 use Rattle.gate_found_rows.specs.Shown.{number_shown}
-use Rattle.gate_found_rows.proofs.KeyedReads.{finds_few, finds_rising, one_at, rises, rising}
-use Rattle.gate_found_rows.proofs.ListedReads.{kept_shown, told_behind}
+use Rattle.gate_found_rows.proofs.KeyedReads.{finds_few, finds_rising, one_at, rises}
+use Rattle.gate_schema.proofs.ListedQueries.{kept_shown, told_behind}
 
 -- ---- a text as a query of schema 1
 

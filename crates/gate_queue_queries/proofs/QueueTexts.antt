@@ -8,9 +8,9 @@ use Rattle.sqlite_sql.specs.declared.ops.BinaryOp.TheVariants.{Compare}
 use Rattle.sqlite_sql.specs.declared.ops.CompareOp.TheVariants.{Lt}
 use Rattle.sqlite_tied.specs.Compute.{everything}
 use Rattle.gate_schema.proofs.QueryLemmas.{over_table}
-use Rattle.gate_schema.proofs.Statements.{Asks, key_is, no_limit, one_row}
+use Rattle.gate_schema.proofs.Statements.{Asks, key_is, no_limit, one_row, rising}
 use Rattle.gate_queue_queries.proofs.CountReads.{counting}
-use Rattle.gate_found_rows.proofs.KeyedReads.{descending, rising}
+use Rattle.gate_found_rows.proofs.KeyedReads.{descending}
 
 -- ---- the window of a queue
 

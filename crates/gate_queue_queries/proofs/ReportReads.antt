@@ -33,7 +33,7 @@ use Rattle.gate_queue_queries.specs.History.{HoldsReports, history_sql, report_s
 use Rattle.gate_found_rows.specs.Reads.{IsShown}
 use Rattle.gate_found_rows.specs.Shown.{number_shown}
 use Rattle.gate_found_rows.proofs.KeyedReads.{rises}
-use Rattle.gate_found_rows.proofs.ListedReads.{kept_shown, told_behind}
+use Rattle.gate_schema.proofs.ListedQueries.{kept_shown, told_behind}
 use Rattle.gate_found_rows.proofs.ReadLemmas.{answers}
 
 abbrev pub report_terms : List Term

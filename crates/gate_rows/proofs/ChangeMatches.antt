@@ -1,6 +1,7 @@
 -- What is told of a change and its needs, where it is put, or its stage is set.
 use Rattle.std.proofs.Common.{◌≡◌, ℕ, suc, List, [], ◌∷◌, ◌++◌, filter, Bool, true, false, not, cond, eqb, Some}
-use Rattle.std.proofs.Common.{None, Option, refl, sym, ap, ◌∙◌, arith, append-nil}
+use Rattle.std.proofs.Common.{None, Option, refl, sym, ap, subst, ◌∙◌, arith, append-nil, map, nat_eq}
+use lib.Pointwise.{bytes_decides, pointwise}
 use Rattle.std.specs.Option.{option_map_or}
 use Rattle.std.specs.Prelude.{find, option_map}
 use Rattle.std.proofs.lemmas.Bool.Decides.{nat_tests}
@@ -11,7 +12,7 @@ use Rattle.gate_types.specs.declared.records.Change.{Change}
 use Rattle.gate_types.specs.declared.records.Stage.{Stage}
 use Rattle.gate_types.specs.declared.rows.ChangeRow.{ChangeRow}
 use Rattle.gate_types.proofs.ChangedLemmas.{found_changed}
-use Rattle.gate_schema.specs.Edits.{after_edit, change_with, need_rows}
+use Rattle.gate_schema.specs.Edits.{after_edit, change_with, need_rows, standing_needs}
 use Rattle.gate_schema.specs.Rows.{NeedRow, Stored, change_key}
 use Rattle.gate_rows.specs.Matches.{IsInOrder, Matches, needs_in}
 use Rattle.gate_rows.proofs.PutLemmas.{filter-append, find_put, put_is}
@@ -46,30 +47,46 @@ needs_of_one k n m (x ∷ xs) =
     ap (λ l. cond (eqb k n) (first ∷ l) l) (needs_of_one k n (suc m) xs)
     ∙ elim (eqb k n) as (λ c. cond c (first ∷ cond c rest []) (cond c rest []) ≡ cond c (first ∷ rest) []) [ true ↦ refl | false ↦ refl ]
 
+-- the numbers of needs by their places
+needed_of_rows : (k m : ℕ) (xs : List ℕ) → map (λ (y : NeedRow). y.needed) (need_rows k m xs) ≡ xs
+needed_of_rows k m [] = refl
+needed_of_rows k m (x ∷ xs) = ap (λ l. x ∷ l) (needed_of_rows k (suc m) xs)
+
 pub matches_change : (k : Change) (a : Option ℕ) (b : Stored) (t : Tables) → IsInOrder b → Matches b t → Matches (after_edit (edit.PutChange k a) b) (edited_tables t (edit.PutChange k a))
 matches_change k a b t order h =
     let x : ChangeRow = change_with k a in
     record {
       queues_are = queues_stay (edited_queue (edit.PutChange k a)) (λ q. refl) (λ q. refl) (λ q. refl) (λ q. refl) (λ q. refl) _ _ _ _ _ h.queues_are;
       changes_are = put_is change_key x b.changes order.changes ∙ ap (put_by change_key x) h.changes_are;
-      needs_are = λ n.
-          filter-append (λ (y : NeedRow). eqb y.change n) (filter (λ (y : NeedRow). not (eqb y.change k.number)) b.needs) (need_rows k.number 0 k.needs)
-          ∙ ap (λ l. l ++ filter (λ (y : NeedRow). eqb y.change n) (need_rows k.number 0 k.needs)) (needs_without k.number n b.needs)
-          ∙ ap (λ l. cond (eqb k.number n) [] (filter (λ (y : NeedRow). eqb y.change n) b.needs) ++ l) (needs_of_one k.number n 0 k.needs)
-          ∙ ap (λ l. cond (eqb k.number n) [] l ++ cond (eqb k.number n) (need_rows k.number 0 k.needs) []) (h.needs_are n)
-          ∙ go n (eqb k.number n) refl
-          ∙ sym (ap (λ o. need_rows n 0 (option_map_or (λ (r : ChangeRow). r.change.needs) o [])) (find_put change_key n x t.changes));
+      needs_are = λ n. go n (pointwise nat_eq (standing_needs k.number b.needs) k.needs) refl (eqb k.number n) refl ∙ sym (ap (λ o. need_rows n 0 (option_map_or (λ (r : ChangeRow). r.change.needs) o [])) (find_put change_key n x t.changes));
       counters_are = h.counters_are;
       builds_are = h.builds_are;
       kept_are = h.kept_are;
       plans_are = h.plans_are;
     }
   where
-    go : (n : ℕ) (c : Bool) → eqb k.number n ≡ c
+    -- the needs that were put, of the change or of another
+    put : (n : ℕ) (c : Bool) → eqb k.number n ≡ c
         → (cond c [] (need_rows n 0 (needs_in t.changes n)) ++ cond c (need_rows k.number 0 k.needs) [])
         ≡ need_rows n 0 (option_map_or (λ (r : ChangeRow). r.change.needs) (cond c (Some (change_with k a)) (find (λ (r : ChangeRow). eqb r.change.number n) t.changes)) [])
-    go n true e = let same : k.number ≡ n = grind (arith, nat_tests) in ap (λ m. need_rows m 0 k.needs) same
-    go n false e = append-nil (need_rows n 0 (needs_in t.changes n))
+    put n true e = let same : k.number ≡ n = grind (arith, nat_tests) in ap (λ m. need_rows m 0 k.needs) same
+    put n false e = append-nil (need_rows n 0 (needs_in t.changes n))
+
+    go : (n : ℕ) (s : Bool) → pointwise nat_eq (standing_needs k.number b.needs) k.needs ≡ s → (c : Bool) → eqb k.number n ≡ c
+        → filter (λ (y : NeedRow). eqb y.change n) (cond s b.needs (filter (λ (y : NeedRow). not (eqb y.change k.number)) b.needs ++ need_rows k.number 0 k.needs))
+        ≡ need_rows n 0 (option_map_or (λ (r : ChangeRow). r.change.needs) (cond c (Some (change_with k a)) (find (λ (r : ChangeRow). eqb r.change.number n) t.changes)) [])
+    go n true s true e =
+        let is : k.number ≡ n = grind (arith, nat_tests) in
+        let needed : needs_in t.changes k.number ≡ k.needs = sym (needed_of_rows k.number 0 (needs_in t.changes k.number)) ∙ ap (map (λ (y : NeedRow). y.needed)) (sym (h.needs_are k.number)) ∙ (bytes_decides _ _).0 s in
+        subst (λ m. filter (λ (y : NeedRow). eqb y.change m) b.needs ≡ need_rows m 0 k.needs) is (h.needs_are k.number ∙ ap (need_rows k.number 0) needed)
+    go n true s false e = h.needs_are n
+    go n false s c e =
+        filter-append (λ (y : NeedRow). eqb y.change n) (filter (λ (y : NeedRow). not (eqb y.change k.number)) b.needs) (need_rows k.number 0 k.needs)
+        ∙ ap (λ l. l ++ filter (λ (y : NeedRow). eqb y.change n) (need_rows k.number 0 k.needs)) (needs_without k.number n b.needs)
+        ∙ ap (λ l. cond (eqb k.number n) [] (filter (λ (y : NeedRow). eqb y.change n) b.needs) ++ l) (needs_of_one k.number n 0 k.needs)
+        ∙ ap (λ l. cond (eqb k.number n) [] l ++ cond (eqb k.number n) (need_rows k.number 0 k.needs) []) (h.needs_are n)
+        ∙ ap (λ d. cond d [] (need_rows n 0 (needs_in t.changes n)) ++ cond d (need_rows k.number 0 k.needs) []) e
+        ∙ put n c e
 
 -- ---- a stage set
 

@@ -11,3 +11,5 @@ mod ChangeMatches
 pub mod PlanMatches
 mod EveryEdit
 mod RanLemmas
+mod QueryLeaves
+mod NeedsShown

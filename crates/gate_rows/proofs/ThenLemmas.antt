@@ -1,11 +1,12 @@
 -- Changes one after the other.
 use Rattle.std.proofs.Common.{◌≡◌, ℕ, ◌+◌, ◌<◌, zero, suc, List, [], ◌∷◌, ◌++◌, take, length, get_or, refl, sym, ap}
-use Rattle.std.proofs.Common.{subst, ◌∙◌, inl, arith, append-nil}
+use Rattle.std.proofs.Common.{subst, ◌∙◌, inl, arith, append-nil, Bool, cond, filter, true, false, not, eqb, nat_eq}
+use lib.Pointwise.{pointwise}
 use mathlib.Core.List.{append_assoc}
 use Rattle.sqlite.specs.State.{KeepsCommit, State, Survives}
 use Rattle.gate_types.specs.declared.config.Job.{Job}
 use Rattle.gate_schema.specs.Rows.{AreNamed, Changes, IsReady, JobRow, NeedRow, Stands, Stored}
-use Rattle.gate_schema.specs.Edits.{job_rows, need_rows, add_jobs, add_needs}
+use Rattle.gate_schema.specs.Edits.{job_rows, need_rows, add_jobs, add_needs, drop_needs, put_needs, standing_needs}
 
 pub changes_then : (first second third : State) (f g : Stored → Stored) → Changes first second f → Changes second third g → Changes first third (λ b. g (f b))
 changes_then first second third f g one two = record { ready = two.ready; named = λ b named. two.named (f b) (one.named b named); stands = λ b named stands. two.stands (f b) (one.named b named) (one.stands b named stands) }
@@ -39,6 +40,29 @@ needs_more first old new change i xs x within is one two =
     ap (λ m. need_rows change 0 (take i xs) ++ (record { change = change; place = m; needed = x }) ∷ []) (sym z) ∙ sym (next_need change 0 i xs x within is) ∙ ap (λ m. need_rows change 0 (take m xs)) e in
     changes_same first new _ _ (λ b. ap (λ l. record b { needs = l }) (append_assoc b.needs (need_rows change 0 (take i xs)) (last ∷ []) ∙ ap (λ l. b.needs ++ l) rows))
     (changes_then first old new (add_needs (need_rows change 0 (take i xs))) (add_needs (last ∷ [])) one two)
+
+module _ (old : State) (n : ℕ) (needs : List ℕ) (same : Bool)
+    (found : (b : Stored) → Stands old.now.trees b → same ≡ pointwise nat_eq (standing_needs n b.needs) needs) where
+  -- needs put, as it was found whether they stand
+  put_as : (b : Stored) → Stands old.now.trees b → (c : Bool) → same ≡ c
+      → record b { needs = cond c b.needs (filter (λ (y : NeedRow). not (eqb y.change n)) b.needs ++ need_rows n 0 needs) } ≡ put_needs n needs b
+  put_as b stands c is = ap (λ c. record b { needs = cond c b.needs (filter (λ (y : NeedRow). not (eqb y.change n)) b.needs ++ need_rows n 0 needs) }) (sym is ∙ found b stands)
+
+  -- they stand: nothing is written
+  pub needs_kept : (new : State) → same ≡ true → Changes old new (λ b. b) → Changes old new (put_needs n needs)
+  needs_kept new is one = record {
+    ready = one.ready;
+    named = λ b named. named;
+    stands = λ b named stands. subst (Stands new.now.trees) (put_as b stands true is) (one.stands b named stands);
+  }
+
+  -- they don't: they are put in place of those that do
+  pub needs_renewed : (mid new : State) → same ≡ false → Changes old mid (λ b. b) → Changes mid new (λ b. add_needs (need_rows n 0 needs) (drop_needs n b)) → Changes old new (put_needs n needs)
+  needs_renewed mid new is one two = record {
+    ready = two.ready;
+    named = λ b named. named;
+    stands = λ b named stands. subst (Stands new.now.trees) (put_as b stands false is) (two.stands b named (one.stands b named stands));
+  }
 
 pub no_jobs : (s : State) → IsReady s → Changes s s (add_jobs [])
 no_jobs s ready = changes_same s s (λ b. b) (add_jobs []) (λ b. ap (λ l. record b { jobs = l }) (sym (append-nil b.jobs))) (record { ready = ready; named = λ b named. named; stands = λ b named stands. stands })

@@ -22,6 +22,11 @@ abbrev pub FoundIf : {E : Type 0} → State → State → Result Bool E → (Sto
 FoundIf old new result P =
     HasCleanDisk new → IsReady old → IfOk result (λ is. is ≡ true → (b : Stored) → Stands old.now.trees b → P b)
 
+-- on Ok, the answer says this of what the tables held
+abbrev pub FoundAs : {T E : Type 0} → State → State → Result T E → (T → Stored → Type 0) → Type 0
+FoundAs old new result P =
+    HasCleanDisk new → IsReady old → IfOk result (λ x. (b : Stored) → Stands old.now.trees b → P x b)
+
 -- nothing is committed
 abbrev pub Keeps : State → State → Type 0
 Keeps old new = HasCleanDisk new → IsReady old → KeepsCommit old new

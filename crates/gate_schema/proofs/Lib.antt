@@ -1,5 +1,6 @@
 pub mod Statements
 pub mod QueryLemmas
+pub mod ListedQueries
 pub mod ValueLemmas
 pub mod DeleteLemmas
 pub mod NumberLemmas

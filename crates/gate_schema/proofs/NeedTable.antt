@@ -1,8 +1,8 @@
 -- The needs: what each statement on them means, and what it makes of what the tables hold.
-use Rattle.std.proofs.Common.{◌≡◌, ℕ, pos, List, [], ◌∷◌, ◌++◌, drop, filter, not, Ok, codes, refl, sym, ap, subst}
-use Rattle.std.proofs.Common.{◌∙◌, eqb}
+use Rattle.std.proofs.Common.{◌≡◌, ℕ, pos, List, [], ◌∷◌, ◌++◌, drop, filter, map, not, Ok, codes, refl, sym, ap}
+use Rattle.std.proofs.Common.{subst, ◌∙◌, eqb}
 use Rattle.sqlite.specs.Cast.{cast_row}
-use Rattle.sqlite.specs.Command.TheVariants.{Insert, Delete}
+use Rattle.sqlite.specs.Command.TheVariants.{Insert, Delete, Select}
 use Rattle.sqlite.specs.Edit.{edit_of, edited, with_rowid, next_rowid}
 use Rattle.sqlite.specs.Listing.{understood}
 use Rattle.sqlite.specs.Order.{Row}
@@ -10,22 +10,24 @@ use Rattle.sqlite.specs.Program.{overlay}
 use Rattle.sqlite.specs.Query.{Query}
 use Rattle.sqlite.specs.Rowids.TheVariants.{Chosen}
 use Rattle.sqlite.specs.Source.TheVariants.{Values}
-use Rattle.sqlite.specs.State.{State, ExecutesInside}
-use Rattle.sqlite.specs.Term.{Term, lit, col}
+use Rattle.sqlite.specs.State.{State, ExecutesInside, Shown}
+use Rattle.sqlite.specs.Term.{Term, lit, col, eval_all}
 use Rattle.sqlite.specs.declared.types.Value.TheVariants.{Null, Int}
-use Rattle.sqlite.proofs.Callers.{runs_as, statement_of}
+use Rattle.sqlite.proofs.Callers.{reads_as, runs_as, statement_of}
 use Rattle.sqlite_schema.specs.declared.program.Program.{Program}
 use Rattle.sqlite_tied.proofs.RuleLemmas.{and_true}
 use Rattle.sqlite_tied.specs.Compute.{everything}
 use Rattle.sqlite_trees.specs.Tree.{put_row}
 use Rattle.gate_schema.specs.Edits.{add_needs, drop_needs}
-use Rattle.gate_schema.specs.Rows.{NeedRow, IsReady, Changes, IsListed, need_columns}
+use Rattle.gate_schema.specs.Rows.{NeedRow, IsReady, Changes, IsListed, Stands, Stored, need_columns}
 use Rattle.gate_schema.specs.Schema.{gate_schema, need_table_at}
+use Rattle.gate_schema.specs.Shown.{need_shown}
 use Rattle.gate_schema.proofs.ChangeLemmas.{listed_without, numbered_filter}
 use Rattle.gate_schema.proofs.DeleteLemmas.{deleted_ids, leaves_others}
+use Rattle.gate_schema.proofs.ListedQueries.{listed_in_turn, told_behind}
 use Rattle.gate_schema.proofs.QueryLemmas.{over_table, passes}
 use Rattle.gate_schema.proofs.RowLemmas.{cast_int, cast_null, behind}
-use Rattle.gate_schema.proofs.Statements.{Is, key_is, no_limit}
+use Rattle.gate_schema.proofs.Statements.{Asks, Is, key_is, no_limit, rising}
 use Rattle.gate_schema.proofs.TableLemmas.{others_stay, with_needs, listed_next}
 use Rattle.gate_schema.proofs.ValueLemmas.{equal_numbers}
 use Rattle.gate_schema.proofs.WriteLemmas.{inserts, deletes}
@@ -94,3 +96,26 @@ drops_needs n old new count ready h =
             numbered = numbered_filter (λ r. not (test r)) (old.now.trees 9) stands.need.numbered;
           }));
     }
+
+-- ---- the needs that stand of a change
+
+abbrev pub standing_needs_sql : List ℕ
+standing_needs_sql = codes "SELECT needed FROM need WHERE change = ?1 ORDER BY rowid"
+
+abbrev pub standing_needs_query : Query
+standing_needs_query = over_table 9 (key_is 1 ∷ []) (col 1 3 ∷ []) rising no_limit
+
+pub standing_needs_asks : Asks standing_needs_sql standing_needs_query (codes "needed" ∷ [])
+unfolding understood everything
+standing_needs_asks = ((refl, (refl, refl)), refl)
+
+pub finds_needs : (n : ℕ) (old new : State) (b : Stored) (rows : List Row) → IsReady old → Shown standing_needs_sql (Int (pos n) ∷ []) old new rows → Stands old.now.trees b
+    → rows ≡ map need_shown (filter (λ (y : NeedRow). eqb y.change n) b.needs)
+finds_needs n old new b rows ready shown stands =
+    let params = Int (pos n) ∷ [] in
+    let asks = standing_needs_asks in
+    let read = reads_as standing_needs_sql params old new gate_schema ready.schema_is (Select (record { lets = []; body = standing_needs_query }) (codes "needed" ∷ [])) asks.0.0 asks.0.1 asks.1 rows shown in
+    listed_in_turn need_columns need_shown 9 (key_is 1 ∷ []) (col 1 3 ∷ []) no_limit params (λ (y : NeedRow). eqb y.change n)
+    (λ v x is. told_behind (passes (key_is 1 ∷ []) (Int (pos n) ∷ [])) v _ _ (eqb x.change n) (λ w. rw equal_numbers (and_true (eqb x.change n))) is)
+    (λ v x is. told_behind (λ v. eval_all (col 1 3 ∷ []) ((Int (pos n) ∷ []) ∷ v ∷ [])) v _ _ (need_shown x) (λ w. refl) is)
+    (overlay old.now.trees []) b.needs rows stands.need (read.answer Null)

@@ -1,5 +1,5 @@
 -- When a text is a statement, and the pieces that the gate's statements share.
-use Rattle.std.proofs.Common.{◌≡◌, ℕ, List, [], negsuc, false, pos}
+use Rattle.std.proofs.Common.{◌≡◌, ℕ, List, [], ◌∷◌, negsuc, false, pos}
 use Rattle.sqlite.specs.Collation.TheVariants.{Binary}
 use Rattle.sqlite.specs.Command.{Command}
 use Rattle.sqlite.specs.Command.TheVariants.{Select}
@@ -10,6 +10,8 @@ use Rattle.sqlite.specs.declared.types.Value.TheVariants.{Int}
 use Rattle.sqlite.proofs.Callers.{IsPlain, command_of}
 use Rattle.sqlite_sql.specs.declared.ops.BinaryOp.TheVariants.{Compare}
 use Rattle.sqlite_sql.specs.declared.ops.CompareOp.TheVariants.{Eq}
+use Rattle.sqlite_value.specs.Keys.{ascending}
+use Rattle.sqlite_value.specs.declared.keys.Key.{Key}
 use Rattle.gate_schema.specs.Schema.{gate_schema}
 
 -- under the gate's schema the text is this command, with no RETURNING and no clock
@@ -28,6 +30,10 @@ key_is at = op2 (Compare Eq Binary) (col 1 at) (col 0 0)
 -- a column of the row is the second parameter
 abbrev pub second_is : ℕ → Term
 second_is at = op2 (Compare Eq Binary) (col 1 at) (col 0 1)
+
+-- by rising rowid
+abbrev pub rising : List (Term × Key)
+rising = (col 1 0, ascending Binary) ∷ []
 
 -- all rows
 abbrev pub no_limit : Term

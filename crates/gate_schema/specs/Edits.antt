@@ -1,6 +1,7 @@
 -- What the statements, and the edits that are made of them, make of what the tables hold.
 use Rattle.std.specs.Prelude.{ℕ, suc, pos, Bool, true, false, not, ◌==◌, ◌&&◌, if◌then◌else◌, List, [], ◌∷◌, ◌++◌}
-use Rattle.std.specs.Prelude.{map, filter, fold, Option}
+use Rattle.std.specs.Prelude.{map, filter, fold, nat_eq, Option}
+use lib.Pointwise.{pointwise}
 use Rattle.sqlite_keyed.specs.Keyed.{insert_by}
 use Rattle.gate_types.specs.Names.{same_name}
 use Rattle.gate_types.specs.Rebase.{with_live}
@@ -157,11 +158,20 @@ report_in name n r = record { queue = name; row = record { place = n; report = r
 abbrev pub change_with : Change → Option ℕ → ChangeRow
 change_with k a = record { change = k; approval = a }
 
--- a change put, with its needs in place of the old ones
+-- the needs that stand of a change, in the order in which they were added
+abbrev pub standing_needs : ℕ → List NeedRow → List ℕ
+standing_needs n rows = map (λ (y : NeedRow). y.needed) (filter (λ (y : NeedRow). y.change == n) rows)
+
+-- the needs of a change put in place of the old ones, unless these are the same
+abbrev pub put_needs : ℕ → List ℕ → Stored → Stored
+put_needs n needs b =
+    let others = filter (λ (y : NeedRow). not (y.change == n)) b.needs in
+    let same = pointwise nat_eq (standing_needs n b.needs) needs in
+    record b { needs = if same then b.needs else others ++ need_rows n 0 needs }
+
+-- a change put, with its needs
 abbrev pub replace_change : Change → Option ℕ → Stored → Stored
-replace_change k a b =
-    add_needs (need_rows k.number 0 k.needs)
-    (drop_needs k.number (add_change (change_with k a) (drop_change k.number b)))
+replace_change k a b = put_needs k.number k.needs (add_change (change_with k a) (drop_change k.number b))
 
 -- the plan under a serial taken out
 abbrev pub drop_plan : ℕ → Stored → Stored

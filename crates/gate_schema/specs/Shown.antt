@@ -21,6 +21,10 @@ item_shown i =
     Int (pos i.item.serial) ∷ Words i.queue ∷ Int (pos i.item.change) ∷ Int (pos i.item.revision) ∷
     number_or_null i.item.ahead ∷ Int (pos (bit i.item.failing)) ∷ []
 
+-- a need: the change that is needed
+abbrev pub need_shown : NeedRow → Row
+need_shown n = Int (pos n.needed) ∷ []
+
 -- among these needs, a change needs another
 abbrev pub needs_it : List NeedRow → ℕ → ℕ → Bool
 needs_it needs needed number = list_any (λ n. n.change == number && n.needed == needed) needs

@@ -9,6 +9,7 @@ mod histories;
 mod makings;
 mod memory;
 mod migrating;
+mod needs;
 mod openings;
 mod plans;
 mod rows;

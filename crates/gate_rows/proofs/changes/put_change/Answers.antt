@@ -11,5 +11,5 @@ returns-clause-changes g c clean ready =
     let early : HasCleanDisk (state g.S.Store c.renew_change.new.tx.conn.now) = omega (arith, c.renew_needs.ensures.crash.clean) in
     let first = c.in_ok-renew_change.ensures.changes early ready in
     on_ok_weaker c.renew_needs.result
-    (changes_then (state g.S.Store c.args.tx.now.conn.now) (state g.S.Store c.renew_change.new.tx.conn.now) (state g.S.Store c.renew_needs.new.tx.conn.now) (λ b. edits.add_change (edits.change_with c.args.k.now c.args.approval) (edits.drop_change c.args.k.now.number b)) (λ b. edits.add_needs (edits.need_rows c.args.k.now.number 0 c.args.k.now.needs) (edits.drop_needs c.args.k.now.number b)) first)
+    (changes_then (state g.S.Store c.args.tx.now.conn.now) (state g.S.Store c.renew_change.new.tx.conn.now) (state g.S.Store c.renew_needs.new.tx.conn.now) (λ b. edits.add_change (edits.change_with c.args.k.now c.args.approval) (edits.drop_change c.args.k.now.number b)) (edits.put_needs c.args.k.now.number c.args.k.now.needs) first)
     (rw c.as_slice.ensures at (c.renew_needs.ensures.changes clean first.ready))
