@@ -30,7 +30,7 @@ use Rattle.gate_types.specs.Admit.{may_enter, next_plan, entered, admit_one, adm
 use Rattle.gate_book_trait.specs.Reads.{queue_named, items_in}
 use Rattle.gate_book_trait.proofs.ReadLemmas.{and_first}
 use Rattle.gate_admission.specs.Known.{IsQueue, has_room, has_place}
-use Rattle.gate_admission.specs.Enters.{item_in}
+use Rattle.gate_admission.specs.Enters.{row_of_change}
 use Rattle.gate_reads.proofs.Queues.{names}
 use Rattle.gate_types.specs.Counters.{last_number}
 use Rattle.gate_types.specs.Limits.{most_items}
@@ -45,14 +45,14 @@ abbrev last_serial : ℕ
 last_serial = last_number
 
 found_along : (c : Settings) (s : State) (q : Queue) (m : ℕ) (ahead is : List Item) →
-    is_some (item_in m (map (row_of s.builds) (places_after s.builds ahead (map (place_of c s q) is)))) ≡
+    is_some (row_of_change m (map (row_of s.builds) (places_after s.builds ahead (map (place_of c s q) is)))) ≡
     has_change is m
 found_along c s q m ahead [] = refl
 found_along c s q m ahead (i ∷ is) =
     by_test (i.change == m) (found_along c s q m (next_ahead s.builds (with_ahead ahead (place_of c s q i))) is)
   where
     rest : Option ItemRow
-    rest = item_in m (map (row_of s.builds) (places_after s.builds
+    rest = row_of_change m (map (row_of s.builds) (places_after s.builds
         (next_ahead s.builds (with_ahead ahead (place_of c s q i))) (map (place_of c s q) is)))
 
     by_test : (b : Bool) → is_some rest ≡ has_change is m →
@@ -62,9 +62,9 @@ found_along c s q m ahead (i ∷ is) =
 
 -- a row is found where the item is
 pub item_found : (c : Settings) (s : State) (name : List ℕ) (q : Queue) (m : ℕ) → queue_named s name ≡ Some q →
-    is_some (item_in m (items_in c s name)) ≡ has_change q.items m
+    is_some (row_of_change m (items_in c s name)) ≡ has_change q.items m
 item_found c s name q m e =
-    ap (λ o. is_some (item_in m (option_map_or (item_rows c s) o []))) e ∙ found_along c s q m [] q.items
+    ap (λ o. is_some (row_of_change m (option_map_or (item_rows c s) o []))) e ∙ found_along c s q m [] q.items
 
 -- ---- one queue is asked
 

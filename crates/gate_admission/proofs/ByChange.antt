@@ -13,8 +13,8 @@ use Rattle.gate_types.specs.Rising.{In}
 use Rattle.gate_book_trait.specs.declared.rows.QueuedItem.{QueuedItem}
 use Rattle.gate_laws.proofs.Members.{found, not_found}
 use Rattle.gate_laws.proofs.Rising.{Rising}
-use Rattle.gate_admission.specs.Seen.{items_after, item_at, if_of, item_if, item_if_at, serial_put, item_put, item_left}
-use Rattle.gate_admission.specs.Enters.{item_in}
+use Rattle.gate_admission.specs.Seen.{items_after, row_of_serial, if_of, item_if, item_if_at, serial_put, item_put, item_left}
+use Rattle.gate_admission.specs.Enters.{row_of_change}
 use Rattle.gate_admission.proofs.QueueItems.{at_there, Puts, PutBy, from_after}
 
 -- what it gives is a row of this change
@@ -30,7 +30,7 @@ gives_or n rows None b ga gb = gb
 gives_or n rows (Some r) b ga gb = ga
 
 gives_if : (n k : ℕ) (rows : List ItemRow) → Gives n rows (item_if n k rows)
-gives_if n k rows = by_found (item_at k rows) refl
+gives_if n k rows = by_found (row_of_serial k rows) refl
   where
     by_test : (b : Bool) (x : ItemRow) → x.change == n ≡ b → In x rows → (r : ItemRow) → cond b (Some x) None ≡ Some r →
         In r rows × (r.change == n ≡ true)
@@ -39,7 +39,7 @@ gives_if n k rows = by_found (item_at k rows) refl
         subst (λ (y : ItemRow). In y rows × (y.change == n ≡ true)) same (m, t)
     by_test false x t m r e = absurd (none-some r e)
 
-    by_found : (o : Option ItemRow) → item_at k rows ≡ o → Gives n rows (option_and_then (if_of n) o)
+    by_found : (o : Option ItemRow) → row_of_serial k rows ≡ o → Gives n rows (option_and_then (if_of n) o)
     by_found None e = gives_none n rows
     by_found (Some x) e = by_test (x.change == n) x refl (found (λ (i : ItemRow). i.serial == k) rows x e).0
 
@@ -54,7 +54,7 @@ gives_put n rows (e ∷ es) =
     (gives_put n rows es)
 
 -- where no row is of the change, nothing is given
-nothing : (n : ℕ) (rows : List ItemRow) (o : Option ItemRow) → item_in n rows ≡ None → Gives n rows o → o ≡ None
+nothing : (n : ℕ) (rows : List ItemRow) (o : Option ItemRow) → row_of_change n rows ≡ None → Gives n rows o → o ≡ None
 nothing n rows None e g = refl
 nothing n rows (Some r) e g =
     let at = g r refl in
@@ -121,8 +121,8 @@ pub by_change : (name : List ℕ) (n : ℕ) (stored : Option QueuedItem) (rows :
     Rising serial_of_item (items_after name rows edits) → AreOnce (items_after name rows edits) →
     AreTold n stored rows →
     option_or (item_put n (items_after name rows edits) edits) (item_left n stored (items_after name rows edits)) ≡
-    item_in n (items_after name rows edits)
-by_change name n stored rows edits up once told = by_found (item_in n all) refl
+    row_of_change n (items_after name rows edits)
+by_change name n stored rows edits up once told = by_found (row_of_change n all) refl
   where
     all : List ItemRow
     all = items_after name rows edits
@@ -130,7 +130,7 @@ by_change name n stored rows edits up once told = by_found (item_in n all) refl
     left : Option ItemRow
     left = item_left n stored all
 
-    by_found : (o : Option ItemRow) → item_in n all ≡ o → option_or (item_put n all edits) left ≡ o
+    by_found : (o : Option ItemRow) → row_of_change n all ≡ o → option_or (item_put n all edits) left ≡ o
     by_found None e =
         ap (λ o. option_or o left) (nothing n all (item_put n all edits) e (gives_put n all edits))
         ∙ nothing n all left e (gives_at n all (option_map (λ k. k.item.serial) stored))

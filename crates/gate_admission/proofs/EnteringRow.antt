@@ -25,7 +25,7 @@ use Rattle.gate_types.specs.Lawful.{IsDistinct}
 use Rattle.gate_types.specs.Rising.{In}
 use Rattle.gate_laws.proofs.Plans.{plan_kept, replanned}
 use Rattle.gate_laws.proofs.Places.{ahead_end}
-use Rattle.gate_admission.specs.Enters.{item_in, is_met_by_rows, ahead_after, ahead_behind, entering_row}
+use Rattle.gate_admission.specs.Enters.{row_of_change, is_met_by_rows, ahead_after, ahead_of_next, entering_row}
 
 -- ---- what is ahead behind some places
 
@@ -76,7 +76,7 @@ end_last : (o : Option ℕ) (r : ItemRow) (rs : List ItemRow) →
 end_last o r [] = refl
 end_last o r (x ∷ rs) = end_last (ahead_after r) x rs
 
-end_is : (rs : List ItemRow) → end_by None rs ≡ ahead_behind rs
+end_is : (rs : List ItemRow) → end_by None rs ≡ ahead_of_next rs
 end_is [] = refl
 end_is (r ∷ rs) =
     let less : length rs ≡ suc (length rs) - 1 = omega arith in
@@ -144,7 +144,7 @@ no_other m r (x ∷ rs) e h =
     (ap (λ n. x.change == n) (sym (eqb-true r.change m e)) ∙ both.0) ∙ no_other m r rs e both.1
 
 found_once : (m : ℕ) (rs : List ItemRow) → Apart rs →
-    list_any (passing m) rs ≡ option_map_or (λ (r : ItemRow). not r.failing) (item_in m rs) false
+    list_any (passing m) rs ≡ option_map_or (λ (r : ItemRow). not r.failing) (row_of_change m rs) false
 found_once m [] a = refl
 found_once m (r ∷ rs) a = by_test (r.change == m) refl (found_once m rs a.1)
   where
@@ -153,9 +153,9 @@ found_once m (r ∷ rs) a = by_test (r.change == m) refl (found_once m rs a.1)
     or_false false d e = e
 
     by_test : (b : Bool) → r.change == m ≡ b →
-        list_any (passing m) rs ≡ option_map_or (λ (r : ItemRow). not r.failing) (item_in m rs) false →
+        list_any (passing m) rs ≡ option_map_or (λ (r : ItemRow). not r.failing) (row_of_change m rs) false →
         (b && not r.failing || list_any (passing m) rs) ≡
-        option_map_or (λ (r : ItemRow). not r.failing) (cond b (Some r) (item_in m rs)) false
+        option_map_or (λ (r : ItemRow). not r.failing) (cond b (Some r) (row_of_change m rs)) false
     by_test true e h = or_false (not r.failing) (list_any (passing m) rs) (no_other m r rs e a.0)
     by_test false e h = h
 
@@ -267,14 +267,14 @@ entering_is c s q r h =
     let all = ahead_end s.builds [] ps in
     let rows = item_rows c s q in
     let x = with_ahead all (place_of c (entered c s r) q (next_item s n)) in
-    let ahead : last_of all ≡ ahead_behind rows = ahead_by_rows s.builds [] ps ∙ end_is rows in
+    let ahead : last_of all ≡ ahead_of_next rows = ahead_by_rows s.builds [] ps ∙ end_is rows in
     let met : are_met_by all (needs_of s n) ≡ list_all (is_met_by_rows rows) (needs_of s n) =
     ap (λ (f : Need → Bool). list_all f (needs_of s n))
     (λ k m. m.landed || (ahead_has s.builds m.change [] ps
     ∙ found_once m.change rows (apart_rows c s q [] q.items (apart_items q.items h.differ))) k) in
     let failing : is_failing s.builds x ≡ not (list_all (is_met_by_rows rows) (needs_of s n)) =
     fails_blocked s.builds x h.no_build ∙ ap not met in
-    row_parts (next_item s n) (last_of all) (ahead_behind rows) (is_failing s.builds x)
+    row_parts (next_item s n) (last_of all) (ahead_of_next rows) (is_failing s.builds x)
     (not (list_all (is_met_by_rows rows) (needs_of s n))) ahead failing
 
 -- the places of the items that stand there stay

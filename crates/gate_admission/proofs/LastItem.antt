@@ -12,10 +12,10 @@ use Rattle.gate_types.specs.declared.edits.Edit.TheVariants as edit
 use Rattle.gate_types.specs.Names.{same_name}
 use Rattle.gate_types.specs.Keys.{serial_of_item}
 use Rattle.gate_types.specs.Rising.{In}
-use Rattle.gate_book_trait.specs.Reads.{last_below}
+use Rattle.gate_book_trait.specs.Reads.{last_item_below}
 use Rattle.gate_laws.proofs.Members.{found, not_found, from_filter, to_filter, filter_none, filter_all, filter_same}
 use Rattle.gate_laws.proofs.Rising.{Rising, rising_filter}
-use Rattle.gate_admission.specs.Seen.{items_after, item_at, if_at, later, put_below, last_put_below}
+use Rattle.gate_admission.specs.Seen.{items_after, row_of_serial, if_at, later, put_below, last_put_below}
 use Rattle.gate_admission.specs.Enters.{last_row}
 use Rattle.gate_admission.proofs.QueueItems.{at_there, Puts, PutBy, from_after}
 
@@ -111,21 +111,21 @@ last_in o (y ∷ ys) r e = ⊎_elim
 pub greatest : (name : List ℕ) (end : ℕ) (rows : List ItemRow) (edits : List Edit) (r : ItemRow) →
     Rising serial_of_item rows →
     In r (items_after name rows edits) → r.serial < end →
-    AtMost r.serial (later (last_put_below name end edits) (option_map (λ i. i.serial) (last_below end rows)))
+    AtMost r.serial (later (last_put_below name end edits) (option_map (λ i. i.serial) (last_item_below end rows)))
 greatest name end rows edits r up m l = ⊎_elim
     (λ (n : In r rows).
-    later_right r.serial (last_put_below name end edits) (option_map (λ i. i.serial) (last_below end rows))
+    later_right r.serial (last_put_below name end edits) (option_map (λ i. i.serial) (last_item_below end rows))
     (last_most None (filter (λ i. nat_lt i.serial end) rows) r
     (rising_filter serial_of_item (λ i. nat_lt i.serial end) rows up)
     (to_filter (λ i. nat_lt i.serial end) rows r n (lt-ltb r.serial end l))))
     (λ (p : PutBy name r edits).
-    later_left r.serial (last_put_below name end edits) (option_map (λ i. i.serial) (last_below end rows))
+    later_left r.serial (last_put_below name end edits) (option_map (λ i. i.serial) (last_item_below end rows))
     (put_most name end r None edits p l))
     (from_after name rows edits r m)
 
 -- none stands there
 pub none_below : (end : ℕ) (rows : List ItemRow) → ((r : ItemRow) → In r rows → r.serial < end → ⊥) →
-    last_below end rows ≡ None
+    last_item_below end rows ≡ None
 none_below end rows h =
     ap (last_of None) (filter_none (λ i. nat_lt i.serial end) rows (λ r m. by_test (nat_lt r.serial end) r m refl))
   where
@@ -135,8 +135,8 @@ none_below end rows h =
 
 -- the item of the greatest serial is the last
 pub last_here : (end k : ℕ) (rows : List ItemRow) (r : ItemRow) → Rising serial_of_item rows → k < end →
-    ((y : ItemRow) → In y rows → y.serial < end → y.serial ≤ k) → item_at k rows ≡ Some r → last_below end rows ≡ Some r
-last_here end k rows r up l most e = by_found (last_below end rows) refl here
+    ((y : ItemRow) → In y rows → y.serial < end → y.serial ≤ k) → row_of_serial k rows ≡ Some r → last_item_below end rows ≡ Some r
+last_here end k rows r up l most e = by_found (last_item_below end rows) refl here
   where
     below : List ItemRow
     below = filter (λ i. nat_lt i.serial end) rows
@@ -163,12 +163,12 @@ last_here end k rows r up l most e = by_found (last_below end rows) refl here
         let own = from_filter (λ i. nat_lt i.serial end) rows s m in
         let top = most s own.0 (ltb-true s.serial end own.1) in
         let same : s.serial ≡ k = omega (arith, top, h, serial) in
-        sym (at_there rows s up own.0) ∙ ap (λ n. item_at n rows) same ∙ e)
+        sym (at_there rows s up own.0) ∙ ap (λ n. row_of_serial n rows) same ∙ e)
         (last_in None below s f)
 
 pub last_found : (end k : ℕ) (rows : List ItemRow) (o : Option ItemRow) → Rising serial_of_item rows → k < end →
-    ((y : ItemRow) → In y rows → y.serial < end → y.serial ≤ k) → item_at k rows ≡ o → is_some o ≡ true →
-    last_below end rows ≡ o
+    ((y : ItemRow) → In y rows → y.serial < end → y.serial ≤ k) → row_of_serial k rows ≡ o → is_some o ≡ true →
+    last_item_below end rows ≡ o
 last_found end k rows None up l most e is = absurd (true≢false (sym is))
 last_found end k rows (Some r) up l most e is = last_here end k rows r up l most e
 
@@ -178,8 +178,8 @@ none_found (Some r) is = absurd (true≢false is)
 
 -- where none has the greatest serial, the last is below it
 pub last_lower : (end k : ℕ) (rows : List ItemRow) → k < end →
-    ((y : ItemRow) → In y rows → y.serial < end → y.serial ≤ k) → item_at k rows ≡ None →
-    last_below k rows ≡ last_below end rows
+    ((y : ItemRow) → In y rows → y.serial < end → y.serial ≤ k) → row_of_serial k rows ≡ None →
+    last_item_below k rows ≡ last_item_below end rows
 last_lower end k rows l most e =
     ap (last_of None) (filter_same (λ i. nat_lt i.serial k) (λ i. nat_lt i.serial end) rows same)
   where
@@ -196,14 +196,14 @@ last_lower end k rows l most e =
 
 -- the stored item of the serial that is looked at next is the last one below, if it has this serial
 pub stored_at : (end k : ℕ) (rows : List ItemRow) (put : Option ℕ) → Rising serial_of_item rows → k < end →
-    later put (option_map (λ i. i.serial) (last_below end rows)) ≡ Some k →
-    option_and_then (if_at k) (last_below end rows) ≡ item_at k rows
-stored_at end k rows put up l e = by_last (last_below end rows) refl e (item_at k rows) refl
+    later put (option_map (λ i. i.serial) (last_item_below end rows)) ≡ Some k →
+    option_and_then (if_at k) (last_item_below end rows) ≡ row_of_serial k rows
+stored_at end k rows put up l e = by_last (last_item_below end rows) refl e (row_of_serial k rows) refl
   where
     below : List ItemRow
     below = filter (λ i. nat_lt i.serial end) rows
 
-    at_most : (r : ItemRow) → item_at k rows ≡ Some r → AtMost k (option_map (λ i. i.serial) (last_below end rows))
+    at_most : (r : ItemRow) → row_of_serial k rows ≡ Some r → AtMost k (option_map (λ i. i.serial) (last_item_below end rows))
     at_most r f =
         let at = found (λ i. i.serial == k) rows r f in
         let serial = eqb-true r.serial k at.1 in
@@ -211,17 +211,17 @@ stored_at end k rows put up l e = by_last (last_below end rows) refl e (item_at 
         (last_most None below r (rising_filter serial_of_item (λ i. nat_lt i.serial end) rows up)
         (to_filter (λ i. nat_lt i.serial end) rows r at.0 (lt-ltb r.serial end (omega (arith, serial, l)))))
 
-    by_serial : (s : ItemRow) → In s rows → s.serial ≤ k → AtMost k (Some s.serial) ⊎ (item_at k rows ≡ None) →
-        (b : Bool) → s.serial == k ≡ b → cond b (Some s) None ≡ item_at k rows
-    by_serial s m low high true t = sym (ap (λ n. item_at n rows) (sym (eqb-true s.serial k t)) ∙ at_there rows s up m)
+    by_serial : (s : ItemRow) → In s rows → s.serial ≤ k → AtMost k (Some s.serial) ⊎ (row_of_serial k rows ≡ None) →
+        (b : Bool) → s.serial == k ≡ b → cond b (Some s) None ≡ row_of_serial k rows
+    by_serial s m low high true t = sym (ap (λ n. row_of_serial n rows) (sym (eqb-true s.serial k t)) ∙ at_there rows s up m)
     by_serial s m low high false t = elim high [
       | inl top ↦ absurd (true≢false (sym (eq-eqb s.serial k (omega (arith, low, top))) ∙ t))
       | inr none ↦ sym none
     ]
 
-    by_last : (o : Option ItemRow) → last_below end rows ≡ o →
-        later put (option_map (λ i. i.serial) o) ≡ Some k → (f : Option ItemRow) → item_at k rows ≡ f →
-        option_and_then (if_at k) o ≡ item_at k rows
+    by_last : (o : Option ItemRow) → last_item_below end rows ≡ o →
+        later put (option_map (λ i. i.serial) o) ≡ Some k → (f : Option ItemRow) → row_of_serial k rows ≡ f →
+        option_and_then (if_at k) o ≡ row_of_serial k rows
     by_last None g h None e = sym e
     by_last None g h (Some r) e = absurd (subst (λ o. AtMost k (option_map (λ i. i.serial) o)) g (at_most r e))
     by_last (Some s) g h f e =
@@ -233,8 +233,8 @@ stored_at end k rows put up l e = by_last (last_below end rows) refl e (item_at 
         let low : s.serial ≤ k = subst (AtMost s.serial) h (later_right s.serial put (Some s.serial) own) in
         by_serial s m low (by_there f e) (s.serial == k) refl
       where
-        by_there : (o : Option ItemRow) → item_at k rows ≡ o →
-            AtMost k (Some s.serial) ⊎ (item_at k rows ≡ None)
+        by_there : (o : Option ItemRow) → row_of_serial k rows ≡ o →
+            AtMost k (Some s.serial) ⊎ (row_of_serial k rows ≡ None)
         by_there None e = inr e
         by_there (Some r) e = inl (subst (λ o. AtMost k (option_map (λ i. i.serial) o)) g (at_most r e))
 
@@ -245,7 +245,7 @@ last_get o y [] = refl
 last_get o y (x ∷ xs) = last_get (Some y) x xs
 
 pub last_is : (end : ℕ) (rows : List ItemRow) → ((y : ItemRow) → In y rows → y.serial < end) →
-    last_below end rows ≡ last_row rows
+    last_item_below end rows ≡ last_row rows
 last_is end rows h =
     ap (last_of None) (filter_all (λ i. nat_lt i.serial end) rows (λ y m. lt-ltb y.serial end (h y m))) ∙ by_rows rows
   where
@@ -258,7 +258,7 @@ last_is end rows h =
 -- ---- the serial that is looked at next
 
 abbrev pub next_down : List ℕ → ℕ → List ItemRow → List Edit → Option ℕ
-next_down name end rows edits = later (last_put_below name end edits) (option_map (λ i. i.serial) (last_below end rows))
+next_down name end rows edits = later (last_put_below name end edits) (option_map (λ i. i.serial) (last_item_below end rows))
 
 pub most_of : (name : List ℕ) (end k : ℕ) (rows : List ItemRow) (edits : List Edit) → Rising serial_of_item rows →
     next_down name end rows edits ≡ Some k → (y : ItemRow) → In y (items_after name rows edits) → y.serial < end →

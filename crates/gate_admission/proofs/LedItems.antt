@@ -11,13 +11,13 @@ use Rattle.gate_types.specs.State.{Queue, State}
 use Rattle.gate_types.specs.Once.{Content}
 use Rattle.gate_types.specs.Rows.{item_rows}
 use Rattle.gate_types.specs.Lawful.{IsSound}
-use Rattle.gate_book_trait.specs.Reads.{items_in, queued_of, item_count, last_below}
+use Rattle.gate_book_trait.specs.Reads.{items_in, queued_of, item_count, last_item_below}
 use Rattle.gate_laws.proofs.Rising.{Rising}
 use Rattle.gate_laws.proofs.ItemRows.{rows_length}
 use Rattle.gate_admission.specs.Led.{IsLed}
 use Rattle.gate_admission.specs.Known.{IsQueue, has_room}
 use Rattle.gate_admission.specs.Seen.{items_after, item_put, item_left}
-use Rattle.gate_admission.specs.Enters.{item_in, last_row}
+use Rattle.gate_admission.specs.Enters.{row_of_change, last_row}
 use Rattle.gate_admission.proofs.LastItem.{last_is}
 use Rattle.gate_admission.proofs.ByChange.{AreOnce, AreTold, by_change}
 use Rattle.gate_admission.proofs.Standing.{rows_rise, row_once, row_drawn, queue_in, stored_tells}
@@ -29,7 +29,7 @@ pub change_led : (c : Settings) (x : Content) (edits : List Edit) (v : State) (n
     IsSound c x.state → IsLed c x edits v → IsQueue v name →
     option_or (item_put n (items_after name (items_in c x.state name) edits) edits)
     (item_left n (queued_of c x.state n) (items_after name (items_in c x.state name) edits)) ≡
-    item_in n (items_in c v name)
+    row_of_change n (items_in c v name)
 change_led c x edits v name n sound led there =
     let at = queue_after_is c x edits v name there.queue led there.named in
     let q = there.queue in
@@ -45,16 +45,16 @@ change_led c x edits v name n sound led there =
     ap (λ o. option_or (item_put n (items_after name (option_map_or (item_rows c x.state) o []) edits) edits)
     (item_left n (queued_of c x.state n) (items_after name (option_map_or (item_rows c x.state) o []) edits))) at.named
     ∙ by_change name n (queued_of c x.state n) (item_rows c x.state p) edits rise once told
-    ∙ ap (item_in n) at.items
-    ∙ sym (ap (λ o. item_in n (option_map_or (item_rows c v) o [])) there.named)
+    ∙ ap (row_of_change n) at.items
+    ∙ sym (ap (λ o. row_of_change n (option_map_or (item_rows c v) o [])) there.named)
 
 pub last_led : (c : Settings) (x : Content) (edits : List Edit) (v : State) (name : List ℕ) → IsLed c x edits v →
-    IsQueue v name → last_below (v.counters.order + 1) (items_after name (items_in c x.state name) edits) ≡
+    IsQueue v name → last_item_below (v.counters.order + 1) (items_after name (items_in c x.state name) edits) ≡
     last_row (items_in c v name)
 last_led c x edits v name led there =
     let q = there.queue in
-    ap (last_below (v.counters.order + 1)) (items_led c x edits v name led there)
-    ∙ ap (λ o. last_below (v.counters.order + 1) (option_map_or (item_rows c v) o [])) there.named
+    ap (last_item_below (v.counters.order + 1)) (items_led c x edits v name led there)
+    ∙ ap (λ o. last_item_below (v.counters.order + 1) (option_map_or (item_rows c v) o [])) there.named
     ∙ last_is (v.counters.order + 1) (item_rows c v q)
     (λ r m. let low = row_drawn c v q r led.sound (queue_in v name q there.named) m in omega (arith, low))
     ∙ sym (ap (λ o. last_row (option_map_or (item_rows c v) o [])) there.named)

@@ -20,7 +20,7 @@ use Rattle.gate_laws.proofs.Members.{from_filter, to_filter, from_append, to_lef
 use Rattle.gate_laws.proofs.Members.{any_from, any_to, none_from, contains_in, in_contains}
 use Rattle.gate_admission.specs.Led.{IsLed}
 use Rattle.gate_admission.specs.Seen.{staged, ready_after, ready_without, with_approval, change_put}
-use Rattle.gate_admission.specs.Candidates.{is_landing, needs_it, puts, makes_room, lets_in, EntersByEdits, put_ready}
+use Rattle.gate_admission.specs.Candidates.{is_landing, needs_it, puts_or_sets, makes_room, lets_in, EntersByEdits, put_ready}
 use Rattle.gate_admission.specs.Candidates.{left_needing, let_in_by, let_in, AreToLookAt}
 use Rattle.gate_admission.proofs.Led.{put_led}
 use Rattle.gate_admission.proofs.ReadyList.{other_than, stays_in, ready_led}
@@ -29,13 +29,13 @@ use Rattle.gate_admission.proofs.ReadyList.{other_than, stays_in, ready_led}
 
 -- what an edit makes of a ready change that it doesn't put, and of one that it puts
 record AfterEdit (e : Edit) (r : Ready) : Type 0 where
-  from : (rs : List Ready) → puts r.change e ≡ false → In r (ready_after rs e) → In r rs
-  to : (rs : List Ready) → puts r.change e ≡ false → In r rs → In r (ready_after rs e)
-  same : (rs ts : List Ready) → puts r.change e ≡ true → In r (ready_after rs e) → In r (ready_after ts e)
-  known : (o : Option Change) → puts r.change e ≡ false → change_put r.change o e ≡ o
+  from : (rs : List Ready) → puts_or_sets r.change e ≡ false → In r (ready_after rs e) → In r rs
+  to : (rs : List Ready) → puts_or_sets r.change e ≡ false → In r rs → In r (ready_after rs e)
+  same : (rs ts : List Ready) → puts_or_sets r.change e ≡ true → In r (ready_after rs e) → In r (ready_after ts e)
+  known : (o : Option Change) → puts_or_sets r.change e ≡ false → change_put r.change o e ≡ o
 
 -- an edit that puts no change
-unmoved : (e : Edit) (r : Ready) → ((rs : List Ready) → ready_after rs e ≡ rs) → puts r.change e ≡ false →
+unmoved : (e : Edit) (r : Ready) → ((rs : List Ready) → ready_after rs e ≡ rs) → puts_or_sets r.change e ≡ false →
     ((o : Option Change) → change_put r.change o e ≡ o) → AfterEdit e r
 unmoved e r stays other known = record {
   from = λ rs f m. subst (In r) (stays rs) m;
@@ -134,31 +134,31 @@ after_edit (edit.Keep k) r = unmoved (edit.Keep k) r (λ rs. refl) refl (λ o. r
 
 -- some edit puts the change of a number
 abbrev pub are_putting : ℕ → List Edit → Bool
-are_putting n edits = list_any (puts n) edits
+are_putting n edits = list_any (puts_or_sets n) edits
 
 -- a change that isn't put stands in the list after the edits where it stood before
 pub from_all : (edits : List Edit) (rs : List Ready) (r : Ready) → are_putting r.change edits ≡ false →
     In r (fold ready_after rs edits) → In r rs
 from_all [] rs r f m = m
 from_all (e ∷ es) rs r f m =
-    let both = or_parts (puts r.change e) (are_putting r.change es) f in
+    let both = or_parts (puts_or_sets r.change e) (are_putting r.change es) f in
     (after_edit e r).from rs both.0 (from_all es (ready_after rs e) r both.1 m)
 
 to_all : (edits : List Edit) (rs : List Ready) (r : Ready) → are_putting r.change edits ≡ false → In r rs →
     In r (fold ready_after rs edits)
 to_all [] rs r f m = m
 to_all (e ∷ es) rs r f m =
-    let both = or_parts (puts r.change e) (are_putting r.change es) f in
+    let both = or_parts (puts_or_sets r.change e) (are_putting r.change es) f in
     to_all es (ready_after rs e) r both.1 ((after_edit e r).to rs both.0 m)
 
 -- one that is put stands in it whatever the list was before
 same_all : (edits : List Edit) (rs ts : List Ready) (r : Ready) → are_putting r.change edits ≡ true →
     In r (fold ready_after rs edits) → In r (fold ready_after ts edits)
 same_all [] rs ts r h m = absurd (true≢false (sym h))
-same_all (e ∷ es) rs ts r h m = by_later (are_putting r.change es) refl (puts r.change e) refl h
+same_all (e ∷ es) rs ts r h m = by_later (are_putting r.change es) refl (puts_or_sets r.change e) refl h
     (same_all es (ready_after rs e) (ready_after ts e) r)
   where
-    by_later : (l : Bool) → are_putting r.change es ≡ l → (b : Bool) → puts r.change e ≡ b → (b || l) ≡ true →
+    by_later : (l : Bool) → are_putting r.change es ≡ l → (b : Bool) → puts_or_sets r.change e ≡ b → (b || l) ≡ true →
         (are_putting r.change es ≡ true → In r (fold ready_after (ready_after rs e) es) →
         In r (fold ready_after (ready_after ts e) es)) →
         In r (fold ready_after (ready_after ts e) es)
@@ -180,7 +180,7 @@ known_all : (edits : List Edit) (r : Ready) (o : Option Change) → are_putting 
     fold (change_put r.change) o edits ≡ o
 known_all [] r o f = refl
 known_all (e ∷ es) r o f =
-    let both = or_parts (puts r.change e) (are_putting r.change es) f in
+    let both = or_parts (puts_or_sets r.change e) (are_putting r.change es) f in
     ap (λ p. fold (change_put r.change) p es) ((after_edit e r).known o both.0) ∙ known_all es r o both.1
 
 -- ---- the state to which the edits lead
@@ -276,7 +276,7 @@ module _ (c : Settings) (x : Content) (edits : List Edit) (v : State) (sound : I
       by_put : (b : Bool) → k.number == r.change ≡ b → (b || is_landed k && needs_it v k.number r) ≡ true →
           In r (let_in x.state edits)
       by_put true t g = to_left (put_ready edits) (flat_map (let_in_by x.state edits) edits) r
-          (put_stands r (any_to (puts r.change) edits (edit.PutChange k a) at t) m)
+          (put_stands r (any_to (puts_or_sets r.change) edits (edit.PutChange k a) at t) m)
       by_put false t g = landed (is_landed k) refl g
   let_in_is_there r (edit.SetStage n g) at m h = by_put (n == r.change) refl h
     where
@@ -294,7 +294,7 @@ module _ (c : Settings) (x : Content) (edits : List Edit) (v : State) (sound : I
       by_put : (b : Bool) → n == r.change ≡ b → (b || is_landing g && needs_it v n r) ≡ true →
           In r (let_in x.state edits)
       by_put true t q = to_left (put_ready edits) (flat_map (let_in_by x.state edits) edits) r
-          (put_stands r (any_to (puts r.change) edits (edit.SetStage n g) at t) m)
+          (put_stands r (any_to (puts_or_sets r.change) edits (edit.SetStage n g) at t) m)
       by_put false t q = landed (is_landing g) refl q
   let_in_is_there r (edit.PutItem q i) at m h = absurd (true≢false (sym h))
   let_in_is_there r (edit.DropItem n) at m h = absurd (true≢false (sym h))

@@ -12,7 +12,7 @@ use Rattle.gate_types.specs.State.{Queue, State, has_change}
 use Rattle.gate_types.specs.Slot.{are_met_by}
 use Rattle.gate_book_trait.specs.Reads.{queue_named, items_in}
 use Rattle.gate_admission.specs.Known.{IsQueue, has_room, has_place}
-use Rattle.gate_admission.specs.Enters.{item_in, is_met_by_rows, met_by_rows, is_there}
+use Rattle.gate_admission.specs.Enters.{row_of_change, is_met_by_rows, met_by_rows, is_there}
 use Rattle.gate_admission.proofs.Admitted.{item_found, place_is}
 use Rattle.gate_types.specs.Limits.{most_items}
 
@@ -30,7 +30,7 @@ some_bool a b e = sym (ap (λ (o : Option Bool). unwrap_or o a) e)
 -- what is told of a need that has landed or has a row
 pub fine_is : (rows : List ItemRow) (n : Need) (fine : Bool) → met_by_rows rows n ≡ Some fine →
     fine ≡ is_met_by_rows rows n
-fine_is rows n fine e = by_need n.landed (item_in n.change rows) e
+fine_is rows n fine e = by_need n.landed (row_of_change n.change rows) e
   where
     by_need : (l : Bool) (o : Option ItemRow) →
         cond l (Some true) (option_map (λ (r : ItemRow). not r.failing) o) ≡ Some fine →
@@ -52,7 +52,7 @@ are_there c v name q named (n ∷ ns) = λ i. one i && are_there c v name q name
     by_need false b (Some r) e = e
 
     one : is_there (items_in c v name) n ≡ (n.landed || has_change q.items n.change)
-    one = by_need n.landed (has_change q.items n.change) (item_in n.change (items_in c v name))
+    one = by_need n.landed (has_change q.items n.change) (row_of_change n.change (items_in c v name))
         (item_found c v name q n.change named)
 
 -- where one neither has landed nor has a row there is no place

@@ -14,7 +14,7 @@ use Rattle.gate_types.specs.Rising.{In}
 use Rattle.gate_book_trait.specs.Reads.{first_above}
 use Rattle.gate_laws.proofs.Members.{from_filter}
 use Rattle.gate_laws.proofs.Rising.{Rising, from_put, rising_put, rising_filter}
-use Rattle.gate_admission.specs.Seen.{items_after, item_at, if_at}
+use Rattle.gate_admission.specs.Seen.{items_after, row_of_serial, if_at}
 
 -- ---- in order
 
@@ -46,19 +46,19 @@ rising_after name rows (e ∷ es) r = rising_after name (edited_items name rows 
 -- ---- the stored item of a serial
 
 -- in a list that rises, what is above the one before a serial tells what is at it
-pub none_from : (k : ℕ) (rows : List ItemRow) → ((y : ItemRow) → In y rows → k < y.serial) → item_at k rows ≡ None
+pub none_from : (k : ℕ) (rows : List ItemRow) → ((y : ItemRow) → In y rows → k < y.serial) → row_of_serial k rows ≡ None
 none_from k [] h = refl
 none_from k (x ∷ xs) h =
     let above = h x (inl refl) in
-    ap (λ t. cond t (Some x) (item_at k xs)) (ne_eqb x.serial k (λ e. omega (arith, above, e)))
+    ap (λ t. cond t (Some x) (row_of_serial k xs)) (ne_eqb x.serial k (λ e. omega (arith, above, e)))
     ∙ none_from k xs (λ y m. h y (inr m))
 
 pub at_by_above : (k : ℕ) (rows : List ItemRow) → 1 ≤ k → Rising serial_of_item rows →
-    item_at k rows ≡ option_and_then (if_at k) (first_above (k - 1) rows)
+    row_of_serial k rows ≡ option_and_then (if_at k) (first_above (k - 1) rows)
 at_by_above k [] one r = refl
 at_by_above k (x ∷ xs) one r = ⊎_elim
     (λ (l : x.serial < k).
-    ap (λ t. cond t (Some x) (item_at k xs)) (ne_eqb x.serial k (λ e. omega (arith, l, e)))
+    ap (λ t. cond t (Some x) (row_of_serial k xs)) (ne_eqb x.serial k (λ e. omega (arith, l, e)))
     ∙ at_by_above k xs one r.1
     ∙ sym (ap (λ t. option_and_then (if_at k) (cond t (Some x) (first_above (k - 1) xs)))
     (le-ltb (k - 1) x.serial (omega (arith, l, one)))))
@@ -69,7 +69,7 @@ at_by_above k (x ∷ xs) one r = ⊎_elim
     (cases_lt x.serial k)
   where
     by_test : (b : Bool) → x.serial == k ≡ b → k ≤ x.serial →
-        cond b (Some x) (item_at k xs) ≡ cond b (Some x) None
+        cond b (Some x) (row_of_serial k xs) ≡ cond b (Some x) None
     by_test true e l = refl
     by_test false e l = none_from k xs (λ y m. let up = r.0 y m in omega (arith, up, l))
 
@@ -121,12 +121,12 @@ from_after name rows (e ∷ es) r m = ⊎_elim
 
 -- what stands at a serial is found
 pub at_there : (rows : List ItemRow) (r : ItemRow) → Rising serial_of_item rows → In r rows →
-    item_at r.serial rows ≡ Some r
+    row_of_serial r.serial rows ≡ Some r
 at_there [] r up m = absurd m
 at_there (x ∷ xs) r up m = elim m [
-  | inl e ↦ ap (λ t. cond t (Some x) (item_at r.serial xs)) (eq-eqb x.serial r.serial (ap serial_of_item e)) ∙ ap Some e
+  | inl e ↦ ap (λ t. cond t (Some x) (row_of_serial r.serial xs)) (eq-eqb x.serial r.serial (ap serial_of_item e)) ∙ ap Some e
   | inr n ↦
       (let low = up.0 r n in
-      ap (λ t. cond t (Some x) (item_at r.serial xs)) (ne_eqb x.serial r.serial (λ e. omega (arith, low, e)))
+      ap (λ t. cond t (Some x) (row_of_serial r.serial xs)) (ne_eqb x.serial r.serial (λ e. omega (arith, low, e)))
       ∙ at_there xs r up.1 n)
 ]

@@ -18,7 +18,7 @@ use Rattle.gate_book_trait.specs.RowReads.{change_in, change_row_in}
 use Rattle.gate_types.proofs.ChangedLemmas.{found_changed, found_key}
 use Rattle.gate_types.proofs.PlainLemmas.{same_truth}
 use Rattle.gate_admission.specs.Seen.{at_last, staged, change_put, last_put, last_stage, row_put, stage_put}
-use Rattle.gate_admission.specs.Seen.{items_after, item_at, fate_after, by_fate}
+use Rattle.gate_admission.specs.Seen.{items_after, row_of_serial, fate_after, by_fate}
 use Rattle.gate_admission.specs.declared.items.Fate.{Fate}
 use Rattle.gate_admission.specs.declared.items.Fate.TheVariants as fate
 
@@ -219,11 +219,11 @@ item_after name serial item (edit.LandItem k) = if k == serial then None else it
 item_after name serial item _ = item
 
 item_step : (name : List ℕ) (serial : ℕ) (rows : List ItemRow) (e : Edit) →
-    item_at serial (edited_items name rows e) ≡ item_after name serial (item_at serial rows) e
+    row_of_serial serial (edited_items name rows e) ≡ item_after name serial (row_of_serial serial rows) e
 item_step name serial rows (edit.PutItem q i) = by_name (same_name q name)
   where
-    by_name : (b : Bool) → item_at serial (cond b (put_by (λ j. j.serial) i rows) rows) ≡
-        cond (b && i.serial == serial) (Some i) (item_at serial rows)
+    by_name : (b : Bool) → row_of_serial serial (cond b (put_by (λ j. j.serial) i rows) rows) ≡
+        cond (b && i.serial == serial) (Some i) (row_of_serial serial rows)
     by_name true = find_put (λ (j : ItemRow). j.serial) serial i rows
     by_name false = refl
 item_step name serial rows (edit.DropItem k) = find_dropped (λ (j : ItemRow). j.serial) serial k rows
@@ -242,7 +242,7 @@ item_step name serial rows (edit.Keep k) = refl
 
 -- an item by its serial
 pub items_fold : (name : List ℕ) (serial : ℕ) (rows : List ItemRow) (edits : List Edit) →
-    fold (item_after name serial) (item_at serial rows) edits ≡ item_at serial (items_after name rows edits)
+    fold (item_after name serial) (row_of_serial serial rows) edits ≡ row_of_serial serial (items_after name rows edits)
 items_fold name serial rows [] = refl
 items_fold name serial rows (e ∷ es) =
     ap (λ o. fold (item_after name serial) o es) (sym (item_step name serial rows e))
@@ -282,7 +282,7 @@ fate_fold name serial o f (e ∷ es) =
     ∙ fate_fold name serial o (fate_after name serial f e) es
 
 pub item_by_fate : (name : List ℕ) (serial : ℕ) (rows : List ItemRow) (edits : List Edit) →
-    by_fate (item_at serial rows) (fold (fate_after name serial) fate.Stays edits) ≡
-    item_at serial (items_after name rows edits)
+    by_fate (row_of_serial serial rows) (fold (fate_after name serial) fate.Stays edits) ≡
+    row_of_serial serial (items_after name rows edits)
 item_by_fate name serial rows edits =
-    sym (fate_fold name serial (item_at serial rows) fate.Stays edits) ∙ items_fold name serial rows edits
+    sym (fate_fold name serial (row_of_serial serial rows) fate.Stays edits) ∙ items_fold name serial rows edits

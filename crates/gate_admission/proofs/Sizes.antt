@@ -11,12 +11,12 @@ use Rattle.gate_types.specs.State.{put_by}
 use Rattle.gate_types.specs.Rows.{edited_items}
 use Rattle.gate_types.specs.Keys.{serial_of_item}
 use Rattle.gate_laws.proofs.Rising.{Rising}
-use Rattle.gate_admission.specs.Seen.{items_after, item_at, grows, shrinks, one_if}
+use Rattle.gate_admission.specs.Seen.{items_after, row_of_serial, grows, shrinks, one_if}
 use Rattle.gate_admission.proofs.QueueItems.{none_from}
 
 -- a row that is put adds one, unless its serial was there
 length_put : (i : ItemRow) (rows : List ItemRow) → Rising serial_of_item rows →
-    length (put_by serial_of_item i rows) ≡ length rows + one_if (not (is_some (item_at i.serial rows)))
+    length (put_by serial_of_item i rows) ≡ length rows + one_if (not (is_some (row_of_serial i.serial rows)))
 length_put i [] r = refl
 length_put i (y ∷ ys) r = by_equal (i.serial == y.serial) refl (nat_lt i.serial y.serial) refl (length_put i ys r.1)
   where
@@ -25,40 +25,40 @@ length_put i (y ∷ ys) r = by_equal (i.serial == y.serial) refl (nat_lt i.seria
     next b h = omega (arith, h)
 
     by_equal : (b : Bool) → i.serial == y.serial ≡ b → (l : Bool) → nat_lt i.serial y.serial ≡ l →
-        length (put_by serial_of_item i ys) ≡ length ys + one_if (not (is_some (item_at i.serial ys))) →
+        length (put_by serial_of_item i ys) ≡ length ys + one_if (not (is_some (row_of_serial i.serial ys))) →
         length (cond b (i ∷ ys) (cond l (i ∷ y ∷ ys) (y ∷ put_by serial_of_item i ys))) ≡
-        suc (length ys) + one_if (not (is_some (item_at i.serial (y ∷ ys))))
+        suc (length ys) + one_if (not (is_some (row_of_serial i.serial (y ∷ ys))))
     by_equal true e l f h =
-        let there : one_if (not (is_some (item_at i.serial (y ∷ ys)))) ≡ 0 =
-        ap (λ t. one_if (not (is_some (cond t (Some y) (item_at i.serial ys)))))
+        let there : one_if (not (is_some (row_of_serial i.serial (y ∷ ys)))) ≡ 0 =
+        ap (λ t. one_if (not (is_some (cond t (Some y) (row_of_serial i.serial ys)))))
         (eq-eqb y.serial i.serial (sym (eqb-true i.serial y.serial e))) in
         omega (arith, there)
     by_equal false e true f h =
         let low = ltb-true i.serial y.serial f in
-        let gone : one_if (not (is_some (item_at i.serial (y ∷ ys)))) ≡ 1 =
+        let gone : one_if (not (is_some (row_of_serial i.serial (y ∷ ys)))) ≡ 1 =
         ap (λ o. one_if (not (is_some o))) (none_from i.serial (y ∷ ys) (λ x m. elim m [
           | inl g ↦ subst (λ (z : ItemRow). i.serial < z.serial) g low
           | inr n ↦ (let up = r.0 x n in omega (arith, up, low))
         ])) in
         omega (arith, gone)
     by_equal false e false f h =
-        let same : item_at i.serial (y ∷ ys) ≡ item_at i.serial ys =
-        ap (λ t. cond t (Some y) (item_at i.serial ys))
+        let same : row_of_serial i.serial (y ∷ ys) ≡ row_of_serial i.serial ys =
+        ap (λ t. cond t (Some y) (row_of_serial i.serial ys))
         (ne_eqb y.serial i.serial (λ g. eqb-false i.serial y.serial e (sym g))) in
-        next (not (is_some (item_at i.serial ys))) h ∙ ap (λ o. suc (length ys) + one_if (not (is_some o))) (sym same)
+        next (not (is_some (row_of_serial i.serial ys))) h ∙ ap (λ o. suc (length ys) + one_if (not (is_some o))) (sym same)
 
 -- a row that is dropped takes one
 length_drop : (k : ℕ) (rows : List ItemRow) → Rising serial_of_item rows →
-    length (filter (λ j. not (j.serial == k)) rows) + one_if (is_some (item_at k rows)) ≡ length rows
+    length (filter (λ j. not (j.serial == k)) rows) + one_if (is_some (row_of_serial k rows)) ≡ length rows
 length_drop k [] r = refl
 length_drop k (y ∷ ys) r = by_test (y.serial == k) refl (length_drop k ys r.1)
   where
     by_test : (b : Bool) → y.serial == k ≡ b →
-        length (filter (λ j. not (j.serial == k)) ys) + one_if (is_some (item_at k ys)) ≡ length ys →
+        length (filter (λ j. not (j.serial == k)) ys) + one_if (is_some (row_of_serial k ys)) ≡ length ys →
         length (cond (not b) (y ∷ filter (λ j. not (j.serial == k)) ys) (filter (λ j. not (j.serial == k)) ys))
-        + one_if (is_some (cond b (Some y) (item_at k ys))) ≡ suc (length ys)
+        + one_if (is_some (cond b (Some y) (row_of_serial k ys))) ≡ suc (length ys)
     by_test true e h =
-        let none : one_if (is_some (item_at k ys)) ≡ 0 =
+        let none : one_if (is_some (row_of_serial k ys)) ≡ 0 =
         ap (λ o. one_if (is_some o)) (none_from k ys
         (λ x m. let up = r.0 x m in let same = eqb-true y.serial k e in omega (arith, up, same))) in
         omega (arith, none, h)
@@ -70,7 +70,7 @@ pub size_step : (name : List ℕ) (rows : List ItemRow) (e : Edit) → Rising se
 size_step name rows (edit.PutItem q i) r = by_name (same_name q name)
   where
     by_name : (b : Bool) → length (cond b (put_by serial_of_item i rows) rows) + 0 ≡
-        length rows + one_if (b && not (is_some (item_at i.serial rows)))
+        length rows + one_if (b && not (is_some (row_of_serial i.serial rows)))
     by_name true = omega (arith, length_put i rows r)
     by_name false = refl
 size_step name rows (edit.DropItem k) r = omega (arith, length_drop k rows r)

@@ -13,7 +13,7 @@ use Rattle.gate_types.specs.Step.{is_exhausted}
 use Rattle.gate_types.specs.Rows.{item_rows, edited_items}
 use Rattle.gate_types.specs.Once.{Content}
 use Rattle.gate_types.specs.Forms.{IsLawfulContent, is_queue_in_form, is_item_in_form}
-use Rattle.gate_book_trait.specs.Reads.{queue_named, items_in, item_count, first_above, last_below}
+use Rattle.gate_book_trait.specs.Reads.{queue_named, items_in, item_count, first_above, last_item_below}
 use Rattle.gate_laws.proofs.Members.{every, all_from, not_found, filter_all}
 use Rattle.gate_laws.proofs.Rising.{Rising}
 use Rattle.gate_laws.proofs.ItemRows.{rows_length}
@@ -110,7 +110,7 @@ module _ (c : Settings) (x : Content) (name : List ℕ) (lawful : IsLawfulConten
   pub no_first : first_above 0 rows ≡ None → item_count c x.state name ≤ 0
   no_first e = none_above rows positive e
 
-  pub no_last : last_below 18446744073709551615 rows ≡ None → item_count c x.state name ≤ 0
+  pub no_last : last_item_below 18446744073709551615 rows ≡ None → item_count c x.state name ≤ 0
   no_last e = by_rows rows
       (sym (ap (fold (λ (last : Option ItemRow) (i : ItemRow). Some i) None)
       (filter_all (λ (i : ItemRow). nat_lt i.serial 18446744073709551615) rows
@@ -126,7 +126,7 @@ module _ (c : Settings) (x : Content) (name : List ℕ) (lawful : IsLawfulConten
       by_rows [] f = omega arith
       by_rows (r ∷ rs) f = absurd (some_last r rs f)
 
-  pub most : (f l : ItemRow) (n : ℕ) → first_above 0 rows ≡ Some f → last_below 18446744073709551615 rows ≡ Some l →
+  pub most : (f l : ItemRow) (n : ℕ) → first_above 0 rows ≡ Some f → last_item_below 18446744073709551615 rows ≡ Some l →
       l.serial < f.serial + n → item_count c x.state name ≤ n
   most f l n first last h =
       let few = count_between rows f.serial l.serial up (first_is rows f positive up first) top in

@@ -24,10 +24,10 @@ abbrev pub needs_it : State → ℕ → Ready → Bool
 needs_it v n r = list_any (λ m. m == n) (change_of v r.change).needs
 
 -- an edit puts the change of a number, or sets its stage
-abbrev pub puts : ℕ → Edit → Bool
-puts n (edit.PutChange k approval) = k.number == n
-puts n (edit.SetStage m g) = m == n
-puts n _ = false
+abbrev pub puts_or_sets : ℕ → Edit → Bool
+puts_or_sets n (edit.PutChange k approval) = k.number == n
+puts_or_sets n (edit.SetStage m g) = m == n
+puts_or_sets n _ = false
 
 -- the queue of a name has its 1,000 items
 abbrev pub is_full : State → List ℕ → Bool
@@ -67,7 +67,7 @@ put_ready edits = fold ready_after [] edits
 
 -- the ready changes that need one, but for those that the edits put or set
 abbrev pub left_needing : State → List Edit → ℕ → List Ready
-left_needing s edits n = filter (λ r. not (list_any (puts r.change) edits)) (ready_needing s n)
+left_needing s edits n = filter (λ r. not (list_any (puts_or_sets r.change) edits)) (ready_needing s n)
 
 -- a ready change alone, unless it is put
 abbrev pub if_left : Bool → Ready → List Ready

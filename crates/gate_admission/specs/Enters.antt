@@ -17,8 +17,8 @@ use Rattle.gate_book_trait.specs.Reads.{items_in}
 use Rattle.gate_admission.specs.Known.{has_place}
 
 -- the row of a change
-abbrev pub item_in : ℕ → List ItemRow → Option ItemRow
-item_in change rows = find (λ r. r.change == change) rows
+abbrev pub row_of_change : ℕ → List ItemRow → Option ItemRow
+row_of_change change rows = find (λ r. r.change == change) rows
 
 -- the last row
 abbrev pub last_row : List ItemRow → Option ItemRow
@@ -26,11 +26,11 @@ last_row rows = slice_get rows (length rows - 1)
 
 -- a need has landed, or the row of its change isn't failing
 abbrev pub is_met_by_rows : List ItemRow → Need → Bool
-is_met_by_rows rows n = n.landed || option_map_or (λ r. not r.failing) (item_in n.change rows) false
+is_met_by_rows rows n = n.landed || option_map_or (λ r. not r.failing) (row_of_change n.change rows) false
 
 -- whether it has landed or that row isn't failing; none where it neither has landed nor has a row
 abbrev pub met_by_rows : List ItemRow → Need → Option Bool
-met_by_rows rows n = if n.landed then Some true else option_map (λ r. not r.failing) (item_in n.change rows)
+met_by_rows rows n = if n.landed then Some true else option_map (λ r. not r.failing) (row_of_change n.change rows)
 
 -- a need has landed or has a row
 abbrev pub is_there : List ItemRow → Need → Bool
@@ -53,8 +53,8 @@ abbrev pub ahead_after : ItemRow → Option ℕ
 ahead_after r = if r.failing then r.ahead else Some r.serial
 
 -- what is ahead behind these rows, by the last of them
-abbrev pub ahead_behind : List ItemRow → Option ℕ
-ahead_behind rows = option_and_then ahead_after (last_row rows)
+abbrev pub ahead_of_next : List ItemRow → Option ℕ
+ahead_of_next rows = option_and_then ahead_after (last_row rows)
 
 -- the row of a change that enters behind these rows
 abbrev pub entering_row : State → List ItemRow → ℕ → ItemRow
@@ -62,7 +62,7 @@ entering_row s rows n = record {
   serial = s.counters.order + 1;
   change = n;
   revision = (change_of s n).revision;
-  ahead = ahead_behind rows;
+  ahead = ahead_of_next rows;
   failing = not (list_all (is_met_by_rows rows) (needs_of s n));
 }
 

@@ -84,8 +84,8 @@ abbrev pub items_after : List ℕ → List ItemRow → List Edit → List ItemRo
 items_after name items edits = fold (edited_items name) items edits
 
 -- the item of a serial
-abbrev pub item_at : ℕ → List ItemRow → Option ItemRow
-item_at serial items = find (λ i. i.serial == serial) items
+abbrev pub row_of_serial : ℕ → List ItemRow → Option ItemRow
+row_of_serial serial items = find (λ i. i.serial == serial) items
 
 -- an item, if it has this serial
 abbrev pub if_at : ℕ → ItemRow → Option ItemRow
@@ -97,7 +97,7 @@ if_of n i = if i.change == n then Some i else None
 
 -- the item of a serial, if it is of this change
 abbrev pub item_if : ℕ → ℕ → List ItemRow → Option ItemRow
-item_if n serial items = option_and_then (if_of n) (item_at serial items)
+item_if n serial items = option_and_then (if_of n) (row_of_serial serial items)
 
 -- the serial under which an edit puts this change
 abbrev pub serial_put : ℕ → Edit → Option ℕ
@@ -136,13 +136,13 @@ last_put_below name below edits = fold (λ last e. later last (put_below name be
 
 -- an edit puts an item into a queue where none had its serial
 abbrev pub grows : List ℕ → List ItemRow → Edit → Bool
-grows name items (edit.PutItem queue i) = same_name queue name && not (is_some (item_at i.serial items))
+grows name items (edit.PutItem queue i) = same_name queue name && not (is_some (row_of_serial i.serial items))
 grows name items _ = false
 
 -- an edit drops one of these items, or lands it
 abbrev pub shrinks : List ItemRow → Edit → Bool
-shrinks items (edit.DropItem serial) = is_some (item_at serial items)
-shrinks items (edit.LandItem serial) = is_some (item_at serial items)
+shrinks items (edit.DropItem serial) = is_some (row_of_serial serial items)
+shrinks items (edit.LandItem serial) = is_some (row_of_serial serial items)
 shrinks items _ = false
 
 -- one, if it is so

@@ -21,7 +21,7 @@ use std::alloc::Global;
 use std::collections::BTreeMap;
 
 fn puts(edit: &Edit, number: ChangeNo) -> bool
-    ensures { result ≡ candidate.puts number edit.now }
+    ensures { result ≡ candidate.puts_or_sets number edit.now }
 {
     match edit {
         Edit::PutChange { change, .. } => change.number == number,
@@ -31,14 +31,14 @@ fn puts(edit: &Edit, number: ChangeNo) -> bool
 }
 
 fn are_putting(edits: &[Edit], number: ChangeNo) -> bool
-    ensures { result ≡ list_any (candidate.puts number) edits.now }
+    ensures { result ≡ list_any (candidate.puts_or_sets number) edits.now }
 {
     edits.iter().any(|edit| puts(edit, number))
 }
 
 fn with_left(left: Vec<Ready>, edits: &[Edit], row: Ready) -> Result<Vec<Ready>, NoMemory>
     ensures { IfOk result (λ all. all.items
-        ≡ left.items ++ candidate.if_left (list_any (candidate.puts row.change) edits.now) row) }
+        ≡ left.items ++ candidate.if_left (list_any (candidate.puts_or_sets row.change) edits.now) row) }
 {
     let mut all = left;
     if !are_putting(edits, row.change) {
@@ -49,7 +49,7 @@ fn with_left(left: Vec<Ready>, edits: &[Edit], row: Ready) -> Result<Vec<Ready>,
 
 fn without_put(alloc: Global, rows: &[Ready], edits: &[Edit]) -> Result<Vec<Ready>, NoMemory>
     ensures { IfOk result (λ left. left.items
-        ≡ filter (λ r. not (list_any (candidate.puts r.change) edits.now)) rows.now) }
+        ≡ filter (λ r. not (list_any (candidate.puts_or_sets r.change) edits.now)) rows.now) }
 {
     let mut left = Vec::new(alloc);
     for row in rows {

@@ -11,7 +11,7 @@ ghost use Rattle.gate_book_trait.specs.Reads.{items_in};
 ghost use Rattle.gate_admission.specs.Led.{IsLed};
 ghost use Rattle.gate_admission.specs.Known.{IsQueue};
 ghost use Rattle.gate_admission.specs.Enters.{is_met_by_rows, met_by_rows, AreMetBy, AreMetWithRoom, ahead_after};
-ghost use Rattle.gate_admission.specs.Enters.{ahead_behind, entering_row, entering_edits, unready};
+ghost use Rattle.gate_admission.specs.Enters.{ahead_of_next, entering_row, entering_edits, unready};
 ghost use Rattle.gate_admission.specs.Seen.{last_put};
 ghost use Rattle.gate_admission.specs.Entrants.{IsEntrant, TellsEntrant};
 
@@ -164,7 +164,7 @@ fn ahead_behind<B: Book>(
 ) -> Result<Option<Serial>, BookFault>
     ensures { IsRead B.IsTrusted B.Holds B.LeavesOneOf (MayAnswer B.MayFault) book.old book.new (λ c x.
         (v : State) → IsLed c x edits.now v → IsQueue v queue.now → next ≡ v.counters.order + 1 →
-        IfOk result (λ ahead. ahead ≡ ahead_behind (items_in c v queue.now))) result }
+        IfOk result (λ ahead. ahead ≡ ahead_of_next (items_in c v queue.now))) result }
 {
     Ok(ahead_after(last_item(book, edits, queue, next)?))
 }

@@ -4,12 +4,12 @@ ghost use Rattle.gate_types.specs.State.{State};
 ghost use Rattle.gate_book_trait.specs.Faults.{MayAnswer};
 ghost use Rattle.gate_book_trait.specs.Kept.{OfHeld, IsKept};
 ghost use Rattle.gate_book_trait.specs.Reading.{IsRead};
-ghost use Rattle.gate_book_trait.specs.Reads.{items_in, last_below, queued_of};
+ghost use Rattle.gate_book_trait.specs.Reads.{items_in, last_item_below, queued_of};
 ghost use Rattle.gate_admission.specs.Led.{IsLed};
 ghost use Rattle.gate_admission.specs.Seen as seen;
 ghost use Rattle.gate_admission.specs.declared.items.Fate.TheVariants as fate;
 ghost use Rattle.gate_admission.specs.Known.{IsQueue};
-ghost use Rattle.gate_admission.specs.Enters.{item_in, last_row};
+ghost use Rattle.gate_admission.specs.Enters.{row_of_change, last_row};
 
 use gate_book_trait::{Book, BookFault};
 use gate_types::edits::Edit;
@@ -33,7 +33,7 @@ fn stored_item<B: Book>(
     serial: Serial,
 ) -> Result<Option<Item>, BookFault>
     ensures { IsRead B.IsTrusted B.Holds B.LeavesOneOf (MayAnswer B.MayFault) book.old book.new (λ c x.
-        IfOk result (λ found. found ≡ seen.item_at serial (items_in c x.state queue.now))) result }
+        IfOk result (λ found. found ≡ seen.row_of_serial serial (items_in c x.state queue.now))) result }
 {
     Ok(at_serial(book.next_item(queue, serial.get() - 1)?, serial))
 }
@@ -89,7 +89,8 @@ pub(crate) fn item_at<B: Book>(
 ) -> Result<Option<Item>, BookFault>
     ensures { IsRead B.IsTrusted B.Holds B.LeavesOneOf (MayAnswer B.MayFault) book.old book.new (λ c x.
         IfOk result (λ found.
-        found ≡ seen.item_at serial (seen.items_after queue.now (items_in c x.state queue.now) edits.now))) result }
+        let items = seen.items_after queue.now (items_in c x.state queue.now) edits.now in
+        found ≡ seen.row_of_serial serial items)) result }
 {
     match made_of(queue, serial, edits) {
         Fate::Stays => stored_item(book, queue, serial),
@@ -179,7 +180,7 @@ pub fn item_in<B: Book>(
 ) -> Result<Option<Item>, BookFault>
     ensures { IsRead B.IsTrusted B.Holds B.LeavesOneOf (MayAnswer B.MayFault) book.old book.new (λ c x.
         (v : State) → IsLed c x edits.now v →
-        IsQueue v queue.now → IfOk result (λ found. found ≡ item_in change (items_in c v queue.now))) result }
+        IsQueue v queue.now → IfOk result (λ found. found ≡ row_of_change change (items_in c v queue.now))) result }
 {
     match item_put(book, edits, queue, change)? {
         Some(item) => Ok(Some(item)),
@@ -242,9 +243,9 @@ fn next_below<B: Book>(
 ) -> Result<Option<Below>, BookFault>
     ensures serial { OfHeld B.IsTrusted B.Holds book.old book.new (λ c x. IfOk result (λ found.
         option_map (λ b. b.serial) found ≡ seen.later (seen.last_put_below queue.now below edits.now)
-        (option_map (λ i. i.serial) (last_below below (items_in c x.state queue.now))))) }
+        (option_map (λ i. i.serial) (last_item_below below (items_in c x.state queue.now))))) }
     ensures item { OfHeld B.IsTrusted B.Holds book.old book.new (λ c x. IfOk result (λ found. IfSome found (λ b. b.item
-        ≡ seen.item_at b.serial (seen.items_after queue.now (items_in c x.state queue.now) edits.now)))) }
+        ≡ seen.row_of_serial b.serial (seen.items_after queue.now (items_in c x.state queue.now) edits.now)))) }
     ensures falls { IfOk result (λ found. IfSome found (λ b. b.serial < below)) }
     ensures kept { IsKept B.IsTrusted B.Holds B.LeavesOneOf book.old book.new }
     ensures fault { IfErr result (MayAnswer B.MayFault) }
@@ -269,7 +270,7 @@ fn last_below<B: Book>(
 ) -> Result<Option<Item>, BookFault>
     ensures { IsRead B.IsTrusted B.Holds B.LeavesOneOf (MayAnswer B.MayFault) book.old book.new (λ c x.
         IfOk result (λ found. found ≡
-        last_below below (seen.items_after queue.now (items_in c x.state queue.now) edits.now))) result }
+        last_item_below below (seen.items_after queue.now (items_in c x.state queue.now) edits.now))) result }
 {
     let mut end = below;
     while let Some(next) = next_below(book, edits, queue, end)? {

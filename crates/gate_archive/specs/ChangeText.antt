@@ -16,8 +16,8 @@ abbrev pub stands_in : Settings → State → ℕ → Option (List ℕ)
 stands_in c s n = option_map (λ k. k.queue) (queued_of c s n)
 
 -- the serial of its item
-abbrev pub serial_of : Settings → State → ℕ → Option ℕ
-serial_of c s n = option_map (λ k. k.item.serial) (queued_of c s n)
+abbrev pub serial_of_change : Settings → State → ℕ → Option ℕ
+serial_of_change c s n = option_map (λ k. k.item.serial) (queued_of c s n)
 
 -- what has become of a need, of which maybe no revision came
 abbrev pub need_word : Option Change → List ℕ
@@ -36,8 +36,8 @@ need_piece c s n =
     (need_word (known_change s n))
 
 -- a queue takes no more items
-abbrev pub is_full : Settings → State → List ℕ → Bool
-is_full c s queue = nat_le most_items (item_count c s queue)
+abbrev pub takes_no_more : Settings → State → List ℕ → Bool
+takes_no_more c s queue = nat_le most_items (item_count c s queue)
 
 -- a change at its latest revision: its approval while it waits, its queue, and whether that is full; its needs, and the
 -- serial of its item
@@ -51,8 +51,8 @@ change_object k approval queue full needs order = object (
 -- the text of a change, with this queue
 abbrev pub change_text_in : Settings → State → Change → List ℕ → List ℕ
 change_text_in c s k queue =
-    change_object k (or_null number (approval_of s.ready k.number)) queue (is_full c s queue)
-    (array (map (need_piece c s) k.needs)) (or_null number (serial_of c s k.number)) []
+    change_object k (or_null number (approval_of s.ready k.number)) queue (takes_no_more c s queue)
+    (array (map (need_piece c s) k.needs)) (or_null number (serial_of_change c s k.number)) []
 
 -- with the queue of its project
 abbrev pub change_text : Settings → State → Change → List ℕ

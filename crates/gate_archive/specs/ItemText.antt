@@ -116,11 +116,11 @@ item_object serial t builds kept jobs verdict = object (
     member (codes "verdict") verdict ∷ [])
 
 -- its text
-abbrev pub text_of : Settings → State → ℕ → ItemSummary → List ℕ
-text_of c s serial t =
+abbrev pub item_text_of : Settings → State → ℕ → ItemSummary → List ℕ
+item_text_of c s serial t =
     item_object serial t (array (map summary_piece (last_builds s serial most_listed))) (length (builds_of s serial))
     (or_null (jobs_piece s.builds) (place_at c s serial)) (or_null (λ v. plain (verdict_word v)) t.verdict) []
 
 -- the text of the item of a serial, where one was drawn
 abbrev pub item_text : Settings → State → ℕ → Option (List ℕ)
-item_text c s serial = option_map (text_of c s serial) (told_of c s serial)
+item_text c s serial = option_map (item_text_of c s serial) (told_of c s serial)

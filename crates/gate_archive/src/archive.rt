@@ -16,7 +16,7 @@ pub trait Archive: Book {
     ghost use Rattle.gate_book_trait.specs.Kept.{OfHeld, IsKept};
     ghost use Rattle.gate_book_trait.specs.Reading.{IsRead};
     ghost use Rattle.gate_book_trait.specs.Reads.{Answers};
-    ghost use Rattle.gate_book_trait.specs.Writes.{Stops};
+    ghost use Rattle.gate_book_trait.specs.Writes.{StopsHistoryWriter};
     ghost use Rattle.gate_archive.specs.ItemText.{left_at, builds_of, last_builds};
     ghost use Rattle.gate_archive.specs.Writes.{WritesHistoryFrom, WritesFeed, StopsFeed};
 
@@ -52,7 +52,7 @@ pub trait Archive: Book {
         requires { has_failed w.old ≡ false }
         ensures found { OfHeld Self.IsTrusted Self.Holds self.old self.new (λ c x.
             WritesHistoryFrom x.state queue.now from front.now W.contents w.old w.new result) }
-        ensures stops { Stops w.old w.new result }
+        ensures stops { StopsHistoryWriter w.old w.new result }
         ensures kept { IsKept Self.IsTrusted Self.Holds Self.LeavesOneOf self.old self.new };
 
     /// Writes the front and then a line for each accepted delivery, from the first on or behind that of an id, no more

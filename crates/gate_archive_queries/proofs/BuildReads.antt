@@ -29,14 +29,14 @@ use Rattle.gate_schema.proofs.QueryLemmas.{over_table, passes}
 use Rattle.gate_schema.proofs.Statements.{Asks, key_is}
 use Rattle.gate_schema.proofs.ValueLemmas.{equal_numbers}
 use Rattle.gate_found_rows.specs.Finds.{Finds}
-use Rattle.gate_found_rows.specs.Reads.{IsShown}
+use Rattle.gate_found_rows.specs.Reads.{IsStoredIn}
 use Rattle.gate_found_rows.specs.Shown.{number_shown}
 use Rattle.gate_found_rows.specs.Whole.{IsWhole, is_build_row_in_form}
 use Rattle.gate_found_rows.proofs.KeyedReads.{falling, finds_falling}
 use Rattle.gate_found_rows.proofs.ReadLemmas.{answers}
 use Rattle.gate_found_rows.proofs.ShownLemmas.{pass_filter}
 use Rattle.gate_archive.specs.ItemText.{last_of}
-use Rattle.gate_archive_queries.specs.Asked.{builds_of, summary_shown}
+use Rattle.gate_archive_queries.specs.Asked.{stored_builds_of, summary_shown}
 use Rattle.gate_archive_queries.proofs.CountReads.{counted_is}
 use Rattle.gate_queue_queries.proofs.CountReads.{counting, counted, counts}
 use Rattle.gate_types.specs.Counters.{last_number}
@@ -105,24 +105,24 @@ drawn : (n : ℕ) → is_drawn_number n ≡ true → (1 ≤ n) × (n ≤ last_nu
 drawn n form = grind (arith, nat_tests)
 
 -- the builds of a serial are no more than numbers may be drawn
-builds_few : (b : Stored) (serial : ℕ) → IsWhole b → IsKeyedBy (λ x. pos (build_key x)) b.builds → length (builds_of b serial) ≤ last_number
+builds_few : (b : Stored) (serial : ℕ) → IsWhole b → IsKeyedBy (λ x. pos (build_key x)) b.builds → length (stored_builds_of b serial) ≤ last_number
 builds_few b serial whole up =
-    few_rise build_key last_number (builds_of b serial) (ascending-filter _ (λ (x : Build). eqb x.serial serial) b.builds up)
-    (forms (builds_of b serial) (recursion_from_All (λ x. is_build_row_in_form x ≡ true) _ (pass_filter is_build_row_in_form (λ (x : Build). eqb x.serial serial) b.builds whole.builds)))
+    few_rise build_key last_number (stored_builds_of b serial) (ascending-filter _ (λ (x : Build). eqb x.serial serial) b.builds up)
+    (forms (stored_builds_of b serial) (recursion_from_All (λ x. is_build_row_in_form x ≡ true) _ (pass_filter is_build_row_in_form (λ (x : Build). eqb x.serial serial) b.builds whole.builds)))
   where
     forms : (xs : List Build) → AllByRecursion (λ x. is_build_row_in_form x ≡ true) xs → AllByRecursion (λ x. (1 ≤ build_key x) × (build_key x ≤ last_number)) xs
     forms [] all = tt
     forms (x ∷ xs) all = (drawn x.number (number_form x all.0), forms xs all.1)
 
 -- how many builds of a serial there are
-pub count_found : (s : State) (b : Stored) (serial : ℕ) (rows : List Row) → IsShown s b → IsWhole b → Finds count_sql (Int (pos serial) ∷ []) s.now rows
-    → rows ≡ number_shown (length (builds_of b serial)) ∷ []
+pub count_found : (s : State) (b : Stored) (serial : ℕ) (rows : List Row) → IsStoredIn s b → IsWhole b → Finds count_sql (Int (pos serial) ∷ []) s.now rows
+    → rows ≡ number_shown (length (stored_builds_of b serial)) ∷ []
 count_found s b serial rows shows whole finds =
     let params = Int (pos serial) ∷ [] in
     let found : filter (passes (key_is 3 ∷ []) (Int (pos serial) ∷ [])) (overlay s.now.trees [] 13) ≡ map build_table_row (filter (λ (x : Build). eqb x.serial serial) b.builds) =
     ap (filter (passes (key_is 3 ∷ []) (Int (pos serial) ∷ []))) shows.stands.build.rows_are ∙ filter-map _ build_table_row b.builds
     ∙ ap (map build_table_row) (filter_same _ _ (λ x. rw equal_numbers (and_true (eqb x.serial serial))) b.builds) in
-    let many : length (filter (passes (key_is 3 ∷ []) (Int (pos serial) ∷ [])) (overlay s.now.trees [] 13)) ≡ length (builds_of b serial) =
+    let many : length (filter (passes (key_is 3 ∷ []) (Int (pos serial) ∷ [])) (overlay s.now.trees [] 13)) ≡ length (stored_builds_of b serial) =
     ap length found ∙ simp length-map in
     counts 13 (key_is 3 ∷ []) (overlay s.now.trees []) params rows (answers s count_sql count_query (codes "count(*)" ∷ []) params rows count_asks shows.schema_is finds)
     ∙ ap (λ n. counted n ∷ []) many
@@ -131,14 +131,14 @@ count_found s b serial rows shows whole finds =
 -- ---- the last of them
 
 -- the last builds of a serial, the last first
-pub last_found : (s : State) (b : Stored) (serial most : ℕ) (rows : List Row) → IsShown s b → Finds last_sql (Int (pos serial) ∷ Int (pos most) ∷ []) s.now rows
-    → rows ≡ map summary_shown (take most (reverse (builds_of b serial)))
+pub last_found : (s : State) (b : Stored) (serial most : ℕ) (rows : List Row) → IsStoredIn s b → Finds last_sql (Int (pos serial) ∷ Int (pos most) ∷ []) s.now rows
+    → rows ≡ map summary_shown (take most (reverse (stored_builds_of b serial)))
 last_found s b serial most rows shows finds =
     let params = Int (pos serial) ∷ Int (pos most) ∷ [] in
     finds_falling build_key build_table_row summary_shown 13 (key_is 3 ∷ []) last_terms (col 0 1) params (λ (x : Build). eqb x.serial serial)
     (λ x. rw equal_numbers (and_true (eqb x.serial serial))) (λ x. refl) (λ x. refl) (overlay s.now.trees []) b.builds rows shows.stands.build
     (answers s last_sql last_query last_names params rows last_asks shows.schema_is finds)
-    ∙ take-map summary_shown most (reverse (builds_of b serial))
+    ∙ take-map summary_shown most (reverse (stored_builds_of b serial))
 
 -- the end of a list stands first when it is turned round
 end_first : {X : Type 0} (n : ℕ) (front end : List X) → length end ≡ n → take n (reverse (front ++ end)) ≡ reverse end
@@ -175,7 +175,7 @@ last_turned f most xs =
     sym (map-reverse f (take most (reverse xs))) ∙ ap (λ l. map f (reverse l)) (take-reverse most xs) ∙ ap (map f) (reverse-reverse (last_of most xs))
 
 -- they are in form
-pub last_in_form : (b : Stored) (serial most : ℕ) → IsWhole b → AllPass is_build_row_in_form (take most (reverse (builds_of b serial)))
+pub last_in_form : (b : Stored) (serial most : ℕ) → IsWhole b → AllPass is_build_row_in_form (take most (reverse (stored_builds_of b serial)))
 last_in_form b serial most whole =
-    All-take (λ x. is_build_row_in_form x ≡ true) most _ (All-permutation (λ x. is_build_row_in_form x ≡ true) (builds_of b serial) (reverse (builds_of b serial)) (IsPermutation-reverse (builds_of b serial))
+    All-take (λ x. is_build_row_in_form x ≡ true) most _ (All-permutation (λ x. is_build_row_in_form x ≡ true) (stored_builds_of b serial) (reverse (stored_builds_of b serial)) (IsPermutation-reverse (stored_builds_of b serial))
     (pass_filter is_build_row_in_form (λ (x : Build). eqb x.serial serial) b.builds whole.builds))

@@ -42,14 +42,14 @@ use Rattle.gate_schema.proofs.QueryLemmas.{over_table, passes, shows_in_order}
 use Rattle.gate_schema.proofs.Statements.{Asks, key_is, no_limit, rising}
 use Rattle.gate_schema.proofs.ValueLemmas.{equal_blobs}
 use Rattle.gate_found_rows.specs.Finds.{Finds, IsPlainQuery}
-use Rattle.gate_found_rows.specs.Reads.{IsShown}
+use Rattle.gate_found_rows.specs.Reads.{IsStoredIn}
 use Rattle.gate_found_rows.proofs.KeyedReads.{truth_of}
 use Rattle.gate_schema.proofs.ListedQueries.{told_behind}
 use Rattle.gate_found_rows.proofs.ReadLemmas.{answers}
-use Rattle.gate_archive_queries.specs.Deliveries.{HoldAbove, IsFirstOf, IsPlaceOf, WritesLines, accepted}
-use Rattle.gate_archive_queries.specs.Deliveries.{accepted_shown, is_above, line_of}
+use Rattle.gate_archive_queries.specs.Deliveries.{HoldAbove, IsFirstOf, IsPlaceOf, WritesDeliveries, accepted}
+use Rattle.gate_archive_queries.specs.Deliveries.{accepted_shown, is_above, accepted_line}
 use Rattle.gate_queue_queries.proofs.StreamLemmas.{query_of}
-use Rattle.gate_queue_queries.specs.Streamed.{Streams, body, lines}
+use Rattle.gate_queue_queries.specs.Streamed.{StreamsRows, body, lines_of_records}
 use Rattle.gate_archive_queries.specs.declared.delivery_rows.FeedPlace.{FeedPlace}
 
 -- ---- the texts
@@ -209,7 +209,7 @@ rowids_rise params test project rows up =
     (λ r s less. rw less) _ (ascending-filter _ (passes test params) rows up))
 
 -- the read of a rowid finds the place of the id
-pub place_found : (s : State) (b : Stored) (id : Id) (rows : List Row) (place : Option FeedPlace) → IsShown s b → Finds place_sql (Octets id.0 ∷ []) s.now rows → IsFirstOf rows place
+pub place_found : (s : State) (b : Stored) (id : Id) (rows : List Row) (place : Option FeedPlace) → IsStoredIn s b → Finds place_sql (Octets id.0 ∷ []) s.now rows → IsFirstOf rows place
     → IsPlaceOf (s.now.trees 21) b.kept id place
 place_found s b id rows place shows finds first =
     let is = shows.stands.delivery in
@@ -235,8 +235,8 @@ rows_shown params (r ∷ rs) (k ∷ ks) told =
     ap (λ x. x ∷ map (λ (r : Row). eval_all told_terms (params ∷ r ∷ [])) rs) one ∙ ap (λ l. accepted_shown (accepted k) ∷ l) (rows_shown params rs ks rest)
 
 -- a query of deliveries streams those that its rows hold
-streams_so : (sql : List ℕ) (params : Row) (test : List Term) (s : State) (b : Stored) (left : List Row) (ks : List Kept) → Asks sql (over_table 21 test told_terms rising no_limit) told_names → IsShown s b
-    → filter (passes test params) (s.now.trees 21) ≡ left → map (drop 1) left ≡ map kept_columns ks → Streams sql params s accepted_shown (map accepted ks)
+streams_so : (sql : List ℕ) (params : Row) (test : List Term) (s : State) (b : Stored) (left : List Row) (ks : List Kept) → Asks sql (over_table 21 test told_terms rising no_limit) told_names → IsStoredIn s b
+    → filter (passes test params) (s.now.trees 21) ≡ left → map (drop 1) left ≡ map kept_columns ks → StreamsRows sql params s accepted_shown (map accepted ks)
 streams_so sql params test s b left ks asks shows is told = record {
   query = over_table 21 test told_terms rising no_limit;
   names = told_names;
@@ -256,11 +256,11 @@ none_fail params [] = refl
 none_fail params (r ∷ rs) = ap (λ l. r ∷ l) (none_fail params rs)
 
 -- all deliveries
-pub all_streams : (s : State) (b : Stored) → IsShown s b → Streams all_sql [] s accepted_shown (map accepted b.kept)
+pub all_streams : (s : State) (b : Stored) → IsStoredIn s b → StreamsRows all_sql [] s accepted_shown (map accepted b.kept)
 all_streams s b shows = streams_so all_sql [] [] s b (s.now.trees 21) b.kept all_asks shows (none_fail [] (s.now.trees 21)) shows.stands.delivery.columns_are
 
 -- those above a rowid
-pub behind_streams : (s : State) (b : Stored) (place : ℤ) (ks : List Kept) → IsShown s b → HoldAbove (s.now.trees 21) place ks → Streams behind_sql (Int place ∷ []) s accepted_shown (map accepted ks)
+pub behind_streams : (s : State) (b : Stored) (place : ℤ) (ks : List Kept) → IsStoredIn s b → HoldAbove (s.now.trees 21) place ks → StreamsRows behind_sql (Int place ∷ []) s accepted_shown (map accepted ks)
 behind_streams s b place ks shows above =
     streams_so behind_sql (Int place ∷ []) behind_test s b (filter (is_above place) (s.now.trees 21)) ks behind_asks shows
     (filter_same_on _ _ (s.now.trees 21) (above_rows place (s.now.trees 21) shows.stands.delivery.numbered.1)) above
@@ -268,17 +268,17 @@ behind_streams s b place ks shows above =
 -- ---- the text
 
 -- the lines are those of the feed
-lines_are : (n : ℕ) (ks : List Kept) → lines line_of n (map accepted ks) ≡ feed_lines ks
+lines_are : (n : ℕ) (ks : List Kept) → lines_of_records accepted_line n (map accepted ks) ≡ feed_lines ks
 lines_are n [] = refl
-lines_are n (k ∷ ks) = ap (λ l. line_of n (accepted k) ++ l) (lines_are (n + 1) ks)
+lines_are n (k ∷ ks) = ap (λ l. accepted_line n (accepted k) ++ l) (lines_are (n + 1) ks)
 
 -- and so is the text
-text_is : (front : List ℕ) (most : ℕ) (ks : List Kept) → body front line_of most (map accepted ks) ≡ front ++ feed_lines (take most ks)
-text_is front most ks = ap (λ l. front ++ lines line_of 0 l) (take-map accepted most ks) ∙ ap (λ l. front ++ l) (lines_are 0 (take most ks))
+text_is : (front : List ℕ) (most : ℕ) (ks : List Kept) → body front accepted_line most (map accepted ks) ≡ front ++ feed_lines (take most ks)
+text_is front most ks = ap (λ l. front ++ lines_of_records accepted_line 0 l) (take-map accepted most ks) ∙ ap (λ l. front ++ l) (lines_are 0 (take most ks))
 
 -- what is written of the deliveries behind an id, or of all, is the feed
 pub feeds : {W : Type 0} (kept ks : List Kept) (after : Option Id) (most : ℕ) (front : List ℕ) (held : W → Option (List ℕ)) (old new : Tap W) (result : Result ℕ FeedFault) → behind after kept ≡ Some ks
-    → WritesLines held old new front most (map accepted ks) result → WritesFeed kept after most front held old new result
+    → WritesDeliveries held old new front most (map accepted ks) result → WritesFeed kept after most front held old new result
 feeds kept ks after most front held old new (Ok n) is it = record {
   told = take most ks;
   are = ap (option_map (λ ks. take most ks)) is;

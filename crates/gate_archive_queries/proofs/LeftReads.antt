@@ -20,7 +20,7 @@ use Rattle.gate_schema.proofs.QueryLemmas.{over_table, passes}
 use Rattle.gate_schema.proofs.Statements.{Asks, key_is, no_limit, rising}
 use Rattle.gate_schema.proofs.ValueLemmas.{equal_numbers}
 use Rattle.gate_found_rows.specs.Finds.{Finds}
-use Rattle.gate_found_rows.specs.Reads.{IsShown}
+use Rattle.gate_found_rows.specs.Reads.{IsStoredIn}
 use Rattle.gate_schema.proofs.ListedQueries.{listed_in_turn, told_behind}
 use Rattle.gate_found_rows.proofs.ReadLemmas.{answers}
 use Rattle.gate_archive_queries.specs.Asked.{is_left_in_form, left_shown}
@@ -42,7 +42,7 @@ unfolding understood everything
 left_asks = ((refl, (refl, refl)), refl)
 
 -- the reports of a serial, in the order in which they were written
-pub left_found : (s : State) (b : Stored) (serial : ℕ) (rows : List Row) → IsShown s b → Finds left_sql (Int (pos serial) ∷ []) s.now rows
+pub left_found : (s : State) (b : Stored) (serial : ℕ) (rows : List Row) → IsStoredIn s b → Finds left_sql (Int (pos serial) ∷ []) s.now rows
     → rows ≡ map left_shown (filter (λ (l : QueueReport). eqb l.row.report.serial serial) b.reports)
 left_found s b serial rows shows finds =
     let params = Int (pos serial) ∷ [] in

@@ -12,7 +12,7 @@ use Rattle.gate_types.specs.Forms.{IsLawfulContent, is_change_number, is_drawn_n
 use Rattle.gate_types.specs.Forms.{is_report_in_form, is_revision_number, is_verdict_in_form}
 use Rattle.gate_types.specs.Names.{is_name, same_name}
 use Rattle.gate_types.specs.Once.{Content}
-use Rattle.gate_types.specs.Rows.{numbered}
+use Rattle.gate_types.specs.Rows.{numbered_reports}
 use Rattle.gate_types.specs.Settings.{Settings}
 use Rattle.gate_types.specs.State.{Queue, State}
 use Rattle.gate_types.specs.Tables.{tables}
@@ -32,14 +32,14 @@ use Rattle.gate_table_laws.proofs.told.Lists.{lone_found, permuted_same, same_fi
 use Rattle.gate_table_laws.proofs.told.QueueReads.{report_rows, reports_in}
 use Rattle.gate_archive_queries.specs.Answers.{IsArchiveOf}
 use Rattle.gate_archive_queries.specs.Asked as file
-use Rattle.gate_archive_queries.specs.HistoryFrom.{HoldsReports, text_from}
+use Rattle.gate_archive_queries.specs.HistoryFrom.{HoldsDrawnReports, text_from}
 use Rattle.gate_types.specs.Counters.{last_number}
 use Rattle.gate_types.specs.Rising.{In}
 
 -- ---- numbered reports
 
 -- the report of a row is one of those that are numbered
-report_of_row : (n : ℕ) (rs : List Report) (r : ReportRow) → In r (numbered n rs) → In r.report rs
+report_of_row : (n : ℕ) (rs : List Report) (r : ReportRow) → In r (numbered_reports n rs) → In r.report rs
 report_of_row n [] r m = absurd m
 report_of_row n (s ∷ rs) r m = elim m [
   | inl e ↦ inl (ap (λ (y : ReportRow). y.report) e)
@@ -47,7 +47,7 @@ report_of_row n (s ∷ rs) r m = elim m [
 ]
 
 -- and each of them has a row
-row_of_report : (n : ℕ) (rs : List Report) (r : Report) → In r rs → (row : ReportRow) × In row (numbered n rs) × (row.report ≡ r)
+row_of_report : (n : ℕ) (rs : List Report) (r : Report) → In r rs → (row : ReportRow) × In row (numbered_reports n rs) × (row.report ≡ r)
 row_of_report n [] r m = absurd m
 row_of_report n (s ∷ rs) r m = elim m [
   | inl e ↦ (record { place = suc n; report = s }, inl refl, e)
@@ -88,7 +88,7 @@ reports_form q h =
 
 module _ (c : Settings) (x : Content) (b : Stored) (lawful : IsLawfulContent c x) (named : AreNamed b) (told : Matches b (tables c x)) where
   -- the reports of a queue's name, in any order
-  rows_are : (name : List ℕ) → IsPermutation (reports_of name b.reports) (numbered 0 (reports_in x.state name))
+  rows_are : (name : List ℕ) → IsPermutation (reports_of name b.reports) (numbered_reports 0 (reports_in x.state name))
   rows_are name = subst (λ l. IsPermutation (reports_of name b.reports) l) (report_rows c x b told name) (told.queues_are.reports_are name)
 
   -- the queue of a row
@@ -122,7 +122,7 @@ module _ (c : Settings) (x : Content) (b : Stored) (lawful : IsLawfulContent c x
       (own.0, there.0, λ k. record { queue = name k; report = report k })
 
   -- what is found of a serial
-  left_is : (n : ℕ) → file.left_at b n ≡ content.left_at x.state n
+  left_is : (n : ℕ) → file.stored_left_at b n ≡ content.left_at x.state n
   left_is n =
       same_find file.left_row (λ (l : QueueReport). l.row.report.serial == n) (λ (k : LeftItem). k.report.serial == n) b.reports (content.left_items x.state) (λ l. refl) to from one
     where
@@ -165,13 +165,13 @@ module _ (c : Settings) (x : Content) (b : Stored) (lawful : IsLawfulContent c x
       and_from _ _ (and_from _ _ (and_from _ _ (subst (λ name. is_name name ≡ true) at.2 form.name) one.0) one.1) two.1)
 
   -- the reports of the queue of a name
-  reports_held : (name : List ℕ) (q : Queue) → queue_named x.state name ≡ Some q → HoldsReports b name q.reports
+  reports_held : (name : List ℕ) (q : Queue) → queue_named x.state name ≡ Some q → HoldsDrawnReports b name q.reports
   reports_held name q e =
       let at = found (λ (q : Queue). same_name q.name name) x.state.queues q e in
       let few = every (λ (q : Queue). length q.reports ≤ x.state.counters.order) x.state.queues (rows_are_few c x.state lawful.lawful.sound lawful.in_form.state).reports q at.0 in
       let drawn = and_parts _ _ lawful.in_form.state.counters in
       let most = leb-true x.state.counters.order last_number drawn.1 in
-      (subst (λ o. IsPermutation (reports_of name b.reports) (numbered 0 (option_map_or (λ (y : Queue). y.reports) o []))) e (rows_are name), omega (arith, few, most))
+      (subst (λ o. IsPermutation (reports_of name b.reports) (numbered_reports 0 (option_map_or (λ (y : Queue). y.reports) o []))) e (rows_are name), omega (arith, few, most))
 
   -- all of it
   pub archive_is : IsArchiveOf b x

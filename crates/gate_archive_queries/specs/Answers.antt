@@ -8,20 +8,20 @@ use Rattle.gate_archive.specs.HistoryFrom.{history_from}
 use Rattle.gate_archive.specs.ItemText as content
 use Rattle.gate_schema.specs.Rows.{Stored}
 use Rattle.gate_archive_queries.specs.Asked as file
-use Rattle.gate_archive_queries.specs.HistoryFrom.{HoldsReports, text_from}
+use Rattle.gate_archive_queries.specs.HistoryFrom.{HoldsDrawnReports, text_from}
 
 -- each read of the tables is that of the content
 pub record IsArchiveOf (b : Stored) (x : Content) : Type 0 where
   -- the report of a serial, with its queue's name
-  pub left : (serial : ℕ) → file.left_at b serial ≡ content.left_at x.state serial
+  pub left : (serial : ℕ) → file.stored_left_at b serial ≡ content.left_at x.state serial
   -- the reports' rows are in form
   pub left_in_form : AllPass file.is_left_in_form b.reports
   -- all builds of a serial
-  pub builds : (serial : ℕ) → file.builds_of b serial ≡ content.builds_of x.state serial
+  pub builds : (serial : ℕ) → file.stored_builds_of b serial ≡ content.builds_of x.state serial
   -- the last of them
-  pub last_builds : (serial most : ℕ) → file.last_builds b serial most ≡ content.last_builds x.state serial most
+  pub last_builds : (serial most : ℕ) → file.stored_last_builds b serial most ≡ content.last_builds x.state serial most
   -- the reports of the queue of a name
-  pub reports : (name : List ℕ) (q : Queue) → queue_named x.state name ≡ Some q → HoldsReports b name q.reports
+  pub reports : (name : List ℕ) (q : Queue) → queue_named x.state name ≡ Some q → HoldsDrawnReports b name q.reports
   -- its history text from a place on
   pub history_from : (name : List ℕ) (q : Queue) (from : ℕ) → queue_named x.state name ≡ Some q →
       text_from name from q.reports ≡ history_from from q

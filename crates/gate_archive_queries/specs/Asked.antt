@@ -25,8 +25,8 @@ abbrev pub left_row : QueueReport → LeftItem
 left_row l = record { queue = l.queue; report = l.row.report }
 
 -- the report of the item of a serial that left, with its queue's name
-abbrev pub left_at : Stored → ℕ → Option LeftItem
-left_at b serial = option_map left_row (find (λ (l : QueueReport). l.row.report.serial == serial) b.reports)
+abbrev pub stored_left_at : Stored → ℕ → Option LeftItem
+stored_left_at b serial = option_map left_row (find (λ (l : QueueReport). l.row.report.serial == serial) b.reports)
 
 -- the columns of a report behind its queue's name, without its place
 abbrev pub left_shown : QueueReport → Row
@@ -40,20 +40,20 @@ is_left_in_form l =
 
 -- where the disk has returned what was written, and the reports are in form, what is found is this, and no fault blames
 -- a row
-abbrev pub TellsReports : {T : Type 0} → State → State → Result T BookFault → (Stored → T) → Type 0
-TellsReports old new result value =
+abbrev pub TellsIfInForm : {T : Type 0} → State → State → Result T BookFault → (Stored → T) → Type 0
+TellsIfInForm old new result value =
     HasCleanDisk new → (b : Stored) → Shows old b → AllPass is_left_in_form b.reports →
     MatchResult result (λ found. found ≡ value b) (λ f. f ≢ fault.Damaged)
 
 -- ---- builds
 
 -- all builds of a serial, live or not, by number
-abbrev pub builds_of : Stored → ℕ → List Build
-builds_of b serial = filter (λ (x : Build). x.serial == serial) b.builds
+abbrev pub stored_builds_of : Stored → ℕ → List Build
+stored_builds_of b serial = filter (λ (x : Build). x.serial == serial) b.builds
 
 -- the last of them, no more than this many
-abbrev pub last_builds : Stored → ℕ → ℕ → List BuildSummary
-last_builds b serial most = map summary_of (last_of most (builds_of b serial))
+abbrev pub stored_last_builds : Stored → ℕ → ℕ → List BuildSummary
+stored_last_builds b serial most = map summary_of (last_of most (stored_builds_of b serial))
 
 -- what is shown of a build: no more than is told of it
 abbrev pub summary_shown : Build → Row

@@ -52,8 +52,8 @@ abbrev pub accepted_shown : Accepted → Row
 accepted_shown a = Octets a.id.0 ∷ Words a.said ∷ []
 
 -- its line, wherever it stands
-abbrev pub line_of : ℕ → Accepted → List ℕ
-line_of n a = with_id a.id a.said (10 ∷ [])
+abbrev pub accepted_line : ℕ → Accepted → List ℕ
+accepted_line n a = with_id a.id a.said (10 ∷ [])
 
 -- ---- what is written
 
@@ -65,23 +65,23 @@ CutsPart held old new text fault.Broken = TookSome held old new text × (has_fai
 CutsPart held old new text fault.Write = TookSome held old new text × (has_failed new ≡ true)
 
 -- a part behind the first byte is written, or some first bytes of it
-abbrev pub WritesPart : {W : Type 0} → (W → Option (List ℕ)) → Tap W → Tap W → List ℕ → Result (Unit {0}) FeedFault →
-    Type 0
-WritesPart held old new text result =
+abbrev pub WritesFeedPart : {W : Type 0} → (W → Option (List ℕ)) → Tap W → Tap W → List ℕ →
+    Result (Unit {0}) FeedFault → Type 0
+WritesFeedPart held old new text result =
     MatchResult result (λ _. Took held old new text × (has_failed new ≡ false)) (CutsPart held old new text)
 
 -- why the lines weren't written whole: the first row could not be read, or some first bytes were written
-abbrev pub CutsLines : {W : Type 0} → (W → Option (List ℕ)) → Tap W → Tap W → List ℕ → FeedFault → Type 0
-CutsLines held old new text fault.NoDelivery = ⊥
-CutsLines held old new text fault.Unavailable = ⊤
-CutsLines held old new text _ = TookSome held old new text
+abbrev pub CutsDeliveries : {W : Type 0} → (W → Option (List ℕ)) → Tap W → Tap W → List ℕ → FeedFault → Type 0
+CutsDeliveries held old new text fault.NoDelivery = ⊥
+CutsDeliveries held old new text fault.Unavailable = ⊤
+CutsDeliveries held old new text _ = TookSome held old new text
 
 -- the front and the lines of at most so many deliveries are written, and how many there are is told; or why not
-abbrev pub WritesLines : {W : Type 0} → (W → Option (List ℕ)) → Tap W → Tap W → List ℕ → ℕ → List Accepted →
+abbrev pub WritesDeliveries : {W : Type 0} → (W → Option (List ℕ)) → Tap W → Tap W → List ℕ → ℕ → List Accepted →
     Result ℕ FeedFault → Type 0
-WritesLines held old new front most told result =
-    MatchResult result (λ n. Took held old new (body front line_of most told) × (n ≡ length (take most told)))
-    (CutsLines held old new (body front line_of most told))
+WritesDeliveries held old new front most told result =
+    MatchResult result (λ n. Took held old new (body front accepted_line most told) × (n ≡ length (take most told)))
+    (CutsDeliveries held old new (body front accepted_line most told))
 
 -- a call that wrote, or was to write, found the connection open
 abbrev pub OpenedFeed : State → State → Result ℕ FeedFault → Type 0

@@ -8,7 +8,7 @@ ghost use Rattle.gate_archive.specs.ItemText.{summary_of};
 ghost use Rattle.gate_found_rows.specs.Reads.{IsOnlyRead, Opened, Tells};
 ghost use Rattle.gate_found_rows.specs.Shown.{number_shown};
 ghost use Rattle.gate_found_rows.specs.Whole.{is_build_row_in_form};
-ghost use Rattle.gate_archive_queries.specs.Asked.{builds_of, last_builds, summary_shown};
+ghost use Rattle.gate_archive_queries.specs.Asked.{stored_builds_of, stored_last_builds, summary_shown};
 
 use gate_archive::BuildSummary;
 use gate_book_trait::BookFault;
@@ -35,7 +35,8 @@ fn count_in(rows: &[Row]) -> Result<u64, BookFault>
 ///
 /// `NoMemory` where memory is refused, `Store` where the query fails, `Damaged` where the count is no number.
 pub fn build_count<S: Alter>(conn: &mut Connection<S>, of: Serial) -> Result<u64, BookFault>
-    ensures found { Tells (state S.Store conn.old) (state S.Store conn.new) result (λ b. length (builds_of b of)) }
+    ensures found { Tells (state S.Store conn.old) (state S.Store conn.new) result
+        (λ b. length (stored_builds_of b of)) }
     ensures opened { Opened (state S.Store conn.old) (state S.Store conn.new) result }
     ensures only_reads { IsOnlyRead (state S.Store conn.old) (state S.Store conn.new) }
 {
@@ -82,7 +83,7 @@ pub fn last_builds<S: Alter>(
     of: Serial,
     most: u32,
 ) -> Result<Sequence<BuildSummary>, BookFault>
-    ensures found { Tells (state S.Store conn.old) (state S.Store conn.new) result (λ b. last_builds b of most) }
+    ensures found { Tells (state S.Store conn.old) (state S.Store conn.new) result (λ b. stored_last_builds b of most) }
     ensures opened { Opened (state S.Store conn.old) (state S.Store conn.new) result }
     ensures only_reads { IsOnlyRead (state S.Store conn.old) (state S.Store conn.new) }
 {

@@ -11,9 +11,10 @@ ghost use Rattle.gate_archive.specs.Feed.{with_id};
 ghost use Rattle.gate_archive.specs.Writes.{StopsFeed, WritesFeed};
 ghost use Rattle.gate_found_rows.specs.Finds.{OnlyReads, Stays};
 ghost use Rattle.gate_found_rows.specs.Reads.{IsOnlyRead, Opened, Shows};
-ghost use Rattle.gate_queue_queries.specs.History.{IsSettled};
-ghost use Rattle.gate_archive_queries.specs.Deliveries.{IsPlaceOf, OpenedFeed, WritesLines, WritesPart, accepted_shown};
-ghost use Rattle.gate_queue_queries.specs.Streamed.{ReadsOn, Streams};
+ghost use Rattle.gate_queue_queries.specs.History.{ShowsCommitted};
+ghost use Rattle.gate_archive_queries.specs.Deliveries.{IsPlaceOf, OpenedFeed, WritesDeliveries, WritesFeedPart};
+ghost use Rattle.gate_archive_queries.specs.Deliveries.{accepted_shown};
+ghost use Rattle.gate_queue_queries.specs.Streamed.{ReadsOn, StreamsRows};
 ghost use Rattle.gate_archive_queries.specs.declared.delivery_rows.Accepted.{Accepted as Told};
 
 use crate::delivery_rows::{Accepted, FeedPlace, accepted_in, first_place, place_value};
@@ -37,7 +38,7 @@ fn next_accepted<S: Alter>(rows: &mut Rows<'_, S>) -> Result<Option<Accepted>, B
         IfOk result (ReadsOn S.Store sql params accepted_shown rows.old.conn.now rows.new.conn.now given) }
     ensures same { HasCleanDisk (state S.Store rows.new.conn.now) →
         OnOk result (IsUnchanged (state S.Store rows.old.conn.now) (state S.Store rows.new.conn.now)) }
-    ensures stays { HasCleanDisk (state S.Store rows.new.conn.now) → IsSettled (state S.Store rows.old.conn.now) →
+    ensures stays { HasCleanDisk (state S.Store rows.new.conn.now) → ShowsCommitted (state S.Store rows.old.conn.now) →
         Stays (state S.Store rows.old.conn.now) (state S.Store rows.new.conn.now) }
     ensures crash { Survives (state S.Store rows.old.conn.now) (state S.Store rows.new.conn.now) (λ _. ⊥) }
 {
@@ -53,7 +54,7 @@ fn next_accepted<S: Alter>(rows: &mut Rows<'_, S>) -> Result<Option<Accepted>, B
 /// Writes a text; `Write` where the writer fails.
 fn write_text<W: Write>(text: &[u8], w: &mut Tap<W>) -> Result<(), FeedFault>
     requires { has_failed w.old ≡ false }
-    ensures { WritesPart W.contents w.old w.new text.now result }
+    ensures { WritesFeedPart W.contents w.old w.new text.now result }
 {
     match w.write_all(text) {
         Ok(()) => Ok(()),
@@ -64,7 +65,7 @@ fn write_text<W: Write>(text: &[u8], w: &mut Tap<W>) -> Result<(), FeedFault>
 /// Writes the line of a delivery; `Broken` where memory is refused for it.
 fn write_line<W: Write>(alloc: Global, told: &Accepted, w: &mut Tap<W>) -> Result<(), FeedFault>
     requires { has_failed w.old ≡ false }
-    ensures { WritesPart W.contents w.old w.new (with_id told.now.id told.now.said (10 ∷ [])) result }
+    ensures { WritesFeedPart W.contents w.old w.new (with_id told.now.id told.now.said (10 ∷ [])) result }
 {
     match feed_line(alloc, told.id, told.said.as_str()) {
         Ok(line) => write_text(line.as_bytes(), w),
@@ -85,10 +86,10 @@ fn write_lines<S: Alter, W: Write>(
     ensures same_reference { rows.new.conn.ghost_name ≡ rows.old.conn.ghost_name }
     ensures found { HasCleanDisk (state S.Store rows.new.conn.now) → (sql : List ℕ) → (params : Columns) →
         HasGiven S.Store sql params rows.old.conn.now [] → (told : List Told) →
-        Streams sql params (state S.Store rows.old.conn.now) accepted_shown told →
-        WritesLines W.contents w.old w.new front.now most told result }
+        StreamsRows sql params (state S.Store rows.old.conn.now) accepted_shown told →
+        WritesDeliveries W.contents w.old w.new front.now most told result }
     ensures stops { StopsFeed w.old w.new result }
-    ensures stays { HasCleanDisk (state S.Store rows.new.conn.now) → IsSettled (state S.Store rows.old.conn.now) →
+    ensures stays { HasCleanDisk (state S.Store rows.new.conn.now) → ShowsCommitted (state S.Store rows.old.conn.now) →
         Stays (state S.Store rows.old.conn.now) (state S.Store rows.new.conn.now) }
     ensures crash { Survives (state S.Store rows.old.conn.now) (state S.Store rows.new.conn.now) (λ _. ⊥) }
 {
@@ -124,8 +125,8 @@ fn write_queried<S: Alter, W: Write>(
     requires unfailed { has_failed w.old ≡ false }
     ensures found { HasCleanDisk (state S.Store conn.new) → (told : List Told) →
         (IsTrue (state S.Store conn.old).is_open →
-        Streams sql.now (bound params.now) (state S.Store conn.old) accepted_shown told) →
-        WritesLines W.contents w.old w.new front.now most told result }
+        StreamsRows sql.now (bound params.now) (state S.Store conn.old) accepted_shown told) →
+        WritesDeliveries W.contents w.old w.new front.now most told result }
     ensures opened { OpenedFeed (state S.Store conn.old) (state S.Store conn.new) result }
     ensures stops { StopsFeed w.old w.new result }
     ensures stays { HasCleanDisk (state S.Store conn.new) → OnlyReads sql.now →

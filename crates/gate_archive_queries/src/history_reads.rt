@@ -5,12 +5,12 @@ ghost use Rattle.sqlite.specs.State.{HasCleanDisk};
 ghost use Rattle.gate_schema.specs.Rows.{Stored};
 ghost use Rattle.gate_types.specs.Tap.{has_failed};
 ghost use Rattle.gate_types.specs.declared.records.Report.{Report as Told};
-ghost use Rattle.gate_book_trait.specs.Writes.{Stops};
+ghost use Rattle.gate_book_trait.specs.Writes.{StopsHistoryWriter};
 ghost use Rattle.gate_found_rows.specs.Reads.{IsOnlyRead, Shows};
 ghost use Rattle.gate_found_rows.specs.Whole.{IsWhole};
 ghost use Rattle.gate_queue_queries.specs.History.{WritesWhole};
 ghost use Rattle.gate_queue_queries.specs.Streamed.{OpenedHistory};
-ghost use Rattle.gate_archive_queries.specs.HistoryFrom.{HoldsReports, text_from};
+ghost use Rattle.gate_archive_queries.specs.HistoryFrom.{HoldsDrawnReports, text_from};
 
 use gate_book_trait::HistoryFault;
 use gate_queue_queries::{reports, write_end, write_reports};
@@ -45,10 +45,10 @@ pub fn history_from<S: Alter, W: Write>(
 ) -> Result<(), HistoryFault>
     requires { has_failed w.old ≡ false }
     ensures found { HasCleanDisk (state S.Store conn.new) → (b : Stored) → Shows (state S.Store conn.old) b →
-        IsWhole b → (rs : List Told) → HoldsReports b queue.now rs →
+        IsWhole b → (rs : List Told) → HoldsDrawnReports b queue.now rs →
         WritesWhole W.contents w.old w.new (front.now ++ text_from queue.now from rs) result }
     ensures opened { OpenedHistory (state S.Store conn.old) (state S.Store conn.new) result }
-    ensures stops { Stops w.old w.new result }
+    ensures stops { StopsHistoryWriter w.old w.new result }
     ensures only_reads { IsOnlyRead (state S.Store conn.old) (state S.Store conn.new) }
 {
     let count = match reports(conn, queue) {

@@ -5,7 +5,8 @@ ghost use Rattle.sqlite.specs.Held.{state};
 ghost use Rattle.gate_book_trait.specs.Reads.{Answers};
 ghost use Rattle.gate_schema.specs.Rows.{QueueReport};
 ghost use Rattle.gate_found_rows.specs.Reads.{IsOnlyRead, Opened};
-ghost use Rattle.gate_archive_queries.specs.Asked.{TellsReports, is_left_in_form, left_at, left_row, left_shown};
+ghost use Rattle.gate_archive_queries.specs.Asked.{TellsIfInForm, is_left_in_form, stored_left_at, left_row};
+ghost use Rattle.gate_archive_queries.specs.Asked.{left_shown};
 
 use gate_archive::LeftItem;
 use gate_book_trait::BookFault;
@@ -50,7 +51,8 @@ pub fn left<S: Alter>(
     conn: &mut Connection<S>,
     serial: Serial,
 ) -> Result<Option<LeftItem>, BookFault>
-    ensures found { TellsReports (state S.Store conn.old) (state S.Store conn.new) result (λ b. left_at b serial) }
+    ensures found { TellsIfInForm (state S.Store conn.old) (state S.Store conn.new) result
+        (λ b. stored_left_at b serial) }
     ensures opened { Opened (state S.Store conn.old) (state S.Store conn.new) result }
     ensures only_reads { IsOnlyRead (state S.Store conn.old) (state S.Store conn.new) }
 {

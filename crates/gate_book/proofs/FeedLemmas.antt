@@ -16,7 +16,7 @@ use Rattle.gate_archive.specs.Feed.{feed_line, feed_lines, behind, fed}
 use Rattle.gate_archive.specs.Writes.{TookSome, WritesFeed}
 use Rattle.gate_archive.specs.declared.fault.FeedFault.{FeedFault}
 use Rattle.gate_archive.specs.declared.fault.FeedFault.TheVariants as fault
-use Rattle.gate_book.specs.Past.{BreaksOff, LeavesLines, WritesLines}
+use Rattle.gate_book.specs.Past.{BreaksOffFeed, LeavesKeptLines, WritesKeptLines}
 
 -- the lines up to a delivery, and its own
 pub feed_next : (ks : List Kept) (i : ℕ) (k : Kept) → i < length ks → k ≡ get_or ks i k →
@@ -52,7 +52,7 @@ feed_parts front ks i =
 module _ {W : Type 0} (held : W → Option (List ℕ)) where
   -- a front of the first part, and what the fault leaves of the writer
   pub first_cut : (t0 t1 : Tap W) (xs ys all : List ℕ) (f : FeedFault) → all ≡ xs ++ ys → TookFront held t0 t1 xs →
-      BreaksOff t1 f → LeavesLines held t0 t1 all f
+      BreaksOffFeed t1 f → LeavesKeptLines held t0 t1 all f
   first_cut t0 t1 xs ys all fault.NoDelivery e p h = h
   first_cut t0 t1 xs ys all fault.Unavailable e p h = absurd h
   first_cut t0 t1 xs ys all fault.Broken e p h = (subst (WritesFront _ _) (sym e) (writes_sooner _ _ xs ys p), h)
@@ -60,7 +60,7 @@ module _ {W : Type 0} (held : W → Option (List ℕ)) where
 
   -- the first part, and a front of the other
   pub rest_cut : (t0 t1 t2 : Tap W) (xs ys all : List ℕ) (f : FeedFault) → all ≡ xs ++ ys → Took held t0 t1 xs →
-      TookFront held t1 t2 ys → BreaksOff t2 f → LeavesLines held t0 t2 all f
+      TookFront held t1 t2 ys → BreaksOffFeed t2 f → LeavesKeptLines held t0 t2 all f
   rest_cut t0 t1 t2 xs ys all fault.NoDelivery e p q h = h
   rest_cut t0 t1 t2 xs ys all fault.Unavailable e p q h = absurd h
   rest_cut t0 t1 t2 xs ys all fault.Broken e p q h = (subst (WritesFront _ _) (sym e) (writes_later _ _ _ xs ys p q), h)
@@ -75,7 +75,7 @@ module _ {W : Type 0} (held : W → Option (List ℕ)) (t0 t1 : Tap W) where
   -- what is written of deliveries that are there
   pub of_feed : (kept : List Kept) (after : Option Id) (most : ℕ) (front : List ℕ) (ks : List Kept)
       (r : Result ℕ FeedFault) → behind after kept ≡ Some ks →
-      WritesLines held t0 t1 (front ++ feed_lines (take most ks)) (length (take most ks)) r →
+      WritesKeptLines held t0 t1 (front ++ feed_lines (take most ks)) (length (take most ks)) r →
       WritesFeed kept after most front held t0 t1 r
   of_feed kept after most front ks (Ok n) e h =
       record { told = take most ks; are = ap (option_map (λ x. take most x)) e; taken = (h.0, h.1) }

@@ -12,7 +12,7 @@ use Rattle.gate_types.specs.Tap.{Took, TookFront, WritesFront}
 use Rattle.gate_types.specs.Settings.{Settings}
 use Rattle.gate_types.specs.State.{Queue, State}
 use Rattle.gate_types.specs.Once.{Content}
-use Rattle.gate_types.specs.Rows.{numbered}
+use Rattle.gate_types.specs.Rows.{numbered_reports}
 use Rattle.gate_types.specs.Tables.{QueueRows, tables}
 use Rattle.gate_types.specs.History.{report_row, history_text}
 use Rattle.gate_types.specs.declared.records.Report.{Report}
@@ -23,7 +23,7 @@ use Rattle.gate_book_trait.specs.declared.fault.HistoryFault.{HistoryFault}
 use Rattle.gate_book_trait.specs.declared.fault.HistoryFault.TheVariants as fault
 use Rattle.gate_book_trait.specs.Reads.{queue_named}
 use Rattle.gate_book_trait.specs.RowReads.{rows_named}
-use Rattle.gate_book_trait.specs.Text.{first_line, report_lines, last_line, rows_text, IsWritten, BreaksOff}
+use Rattle.gate_book_trait.specs.Text.{first_line, report_lines, closing_line, rows_text, IsWritten, BreaksOffHistory}
 use Rattle.gate_book_trait.specs.Text.{LeavesTap, LeavesText, WritesText}
 use Rattle.gate_book_trait.specs.Writes.{WritesHistory}
 use Rattle.gate_book_trait.proofs.ReadLemmas.{rows_of_queue, named_is, length_reports}
@@ -68,7 +68,7 @@ module _ {W : Type 0} (held : W → Option (List ℕ)) where
 
   -- a front, and what the fault leaves of the writer
   pub text_cut : (t0 t1 : Tap W) (xs ys all : List ℕ) (f : HistoryFault) → all ≡ xs ++ ys → TookFront held t0 t1 xs →
-      BreaksOff t1 f → LeavesText held t0 t1 all f
+      BreaksOffHistory t1 f → LeavesText held t0 t1 all f
   text_cut t0 t1 xs ys all fault.NoQueue e p h = h
   text_cut t0 t1 xs ys all fault.Unavailable e p h = absurd h
   text_cut t0 t1 xs ys all fault.Broken e p h = (subst (WritesFront _ _) (sym e) (writes_sooner _ _ xs ys p), h)
@@ -100,7 +100,7 @@ parts_joined front head last rows k =
 
 -- the lines of rows are those of the reports
 lines_of_reports : (n : ℕ) (rs : List Report) →
-    report_lines (numbered n rs) ≡ flat_map report_row (enumerate_from (suc n) rs)
+    report_lines (numbered_reports n rs) ≡ flat_map report_row (enumerate_from (suc n) rs)
 lines_of_reports n [] = refl
 lines_of_reports n (r ∷ rs) =
     let next : suc (suc n) ≡ suc n + 1 = omega arith in
@@ -108,9 +108,9 @@ lines_of_reports n (r ∷ rs) =
     (lines_of_reports (suc n) rs ∙ ap (λ m. flat_map report_row (enumerate_from m rs)) next)
 
 -- and the text of rows is that of the queue
-text_of_queue : (q : Queue) → rows_text q.name (numbered 0 q.reports) ≡ history_text q
+text_of_queue : (q : Queue) → rows_text q.name (numbered_reports 0 q.reports) ≡ history_text q
 text_of_queue q =
-    λ k. first_line q.name ++ (lines_of_reports 0 q.reports k ++ last_line (length_reports 0 q.reports k))
+    λ k. first_line q.name ++ (lines_of_reports 0 q.reports k ++ closing_line (length_reports 0 q.reports k))
 
 module _ {W : Type 0} (held : W → Option (List ℕ)) (t0 t1 : Tap W) where
   -- what is written of a queue that is there

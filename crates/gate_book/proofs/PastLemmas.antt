@@ -9,7 +9,7 @@ use Rattle.std.proofs.lemmas.List.Folds.{find-append, flat_map-map}
 use Rattle.gate_types.specs.Settings.{Settings}
 use Rattle.gate_types.specs.State.{Queue, State}
 use Rattle.gate_types.specs.Once.{Content}
-use Rattle.gate_types.specs.Rows.{numbered}
+use Rattle.gate_types.specs.Rows.{numbered_reports}
 use Rattle.gate_types.specs.Tables.{QueueRows, tables}
 use Rattle.gate_types.specs.History.{report_row}
 use Rattle.gate_types.specs.declared.records.Report.{Report}
@@ -19,7 +19,7 @@ use Rattle.gate_book_trait.specs.declared.fault.HistoryFault.{HistoryFault}
 use Rattle.gate_book_trait.specs.declared.fault.HistoryFault.TheVariants as fault
 use Rattle.gate_book_trait.specs.Reads.{queue_named}
 use Rattle.gate_book_trait.specs.RowReads.{rows_named}
-use Rattle.gate_book_trait.specs.Text.{first_line, report_lines, last_line, WritesText}
+use Rattle.gate_book_trait.specs.Text.{first_line, report_lines, closing_line, WritesText}
 use Rattle.gate_book_trait.proofs.Finding.{find_map, rest_at}
 use Rattle.gate_book_trait.proofs.ReadLemmas.{rows_of_queue, named_is, length_reports}
 use Rattle.gate_archive.specs.declared.rows.LeftItem.{LeftItem}
@@ -39,15 +39,15 @@ with_report t r = record { queue = t.name; report = r.report }
 
 -- where this queue has the report of a serial, or hasn't
 pub left_at : (n : ℕ) (queues : List QueueTable) (k : ℕ) (t : QueueTable) → k < length queues → t ≡ get_or queues k t →
-    find (λ l. l.report.serial == n) (all_left (map queue.rows_of (drop k queues)))
+    find (λ l. l.report.serial == n) (all_left (map queue.rows_of_table (drop k queues)))
     ≡ option_or (option_map (with_report t) (find (λ r. r.report.serial == n) t.reports.rows.items))
-    (find (λ l. l.report.serial == n) (all_left (map queue.rows_of (drop (suc k) queues))))
+    (find (λ l. l.report.serial == n) (all_left (map queue.rows_of_table (drop (suc k) queues))))
 left_at n queues k t l at =
     let test : LeftItem → Bool = λ i. i.report.serial == n in
-    let rest : Option LeftItem = find test (all_left (map queue.rows_of (drop (suc k) queues))) in
-    ap (λ ts. find test (all_left (map queue.rows_of ts)))
+    let rest : Option LeftItem = find test (all_left (map queue.rows_of_table (drop (suc k) queues))) in
+    ap (λ ts. find test (all_left (map queue.rows_of_table ts)))
     (rest_at queues k t l ∙ ap (λ y. y ∷ drop (suc k) queues) (sym at))
-    ∙ find-append test (left_rows (queue.rows_of t)) (all_left (map queue.rows_of (drop (suc k) queues)))
+    ∙ find-append test (left_rows (queue.rows_of_table t)) (all_left (map queue.rows_of_table (drop (suc k) queues)))
     ∙ ap (λ o. option_or o rest) (find_map (with_report t) test t.reports.rows.items)
 
 -- a report with a queue's name
@@ -55,7 +55,7 @@ abbrev with_name : List ℕ → Report → LeftItem
 with_name name r = record { queue = name; report = r }
 
 left_numbered : (name : List ℕ) (n : ℕ) (rs : List Report) →
-    map (λ (r : ReportRow). with_name name r.report) (numbered n rs) ≡ map (with_name name) rs
+    map (λ (r : ReportRow). with_name name r.report) (numbered_reports n rs) ≡ map (with_name name) rs
 left_numbered name n [] = refl
 left_numbered name n (r ∷ rs) = ap (λ ls. with_name name r ∷ ls) (left_numbered name (suc n) rs)
 
@@ -72,7 +72,7 @@ abbrev beside : ReportRow → ℕ × Report
 beside r = (r.place, r.report)
 
 -- the rows of reports are these beside their places
-beside_places : (n : ℕ) (rs : List Report) → map beside (numbered n rs) ≡ enumerate_from (suc n) rs
+beside_places : (n : ℕ) (rs : List Report) → map beside (numbered_reports n rs) ≡ enumerate_from (suc n) rs
 beside_places n [] = refl
 beside_places n (r ∷ rs) =
     let next : suc (suc n) ≡ suc n + 1 = omega arith in
@@ -80,20 +80,20 @@ beside_places n (r ∷ rs) =
 
 -- the lines of some rows are those of their reports
 lines_from : (from : ℕ) (rs : List Report) →
-    report_lines (take most_listed (drop from (numbered 0 rs))) ≡ flat_map report_row (take most_listed (drop from (enumerate_from 1 rs)))
+    report_lines (take most_listed (drop from (numbered_reports 0 rs))) ≡ flat_map report_row (take most_listed (drop from (enumerate_from 1 rs)))
 lines_from from rs =
-    sym (flat_map-map report_row beside (take most_listed (drop from (numbered 0 rs))))
+    sym (flat_map-map report_row beside (take most_listed (drop from (numbered_reports 0 rs))))
     ∙ ap (flat_map report_row)
-    (sym (take-map beside most_listed (drop from (numbered 0 rs)))
-    ∙ ap (λ ps. take most_listed ps) (sym (drop-map beside from (numbered 0 rs)) ∙ ap (drop from) (beside_places 0 rs)))
+    (sym (take-map beside most_listed (drop from (numbered_reports 0 rs)))
+    ∙ ap (λ ps. take most_listed ps) (sym (drop-map beside from (numbered_reports 0 rs)) ∙ ap (drop from) (beside_places 0 rs)))
 
 -- the text of some rows
 abbrev pub text_from : ℕ → QueueRows → List ℕ
-text_from from t = first_line t.name ++ (report_lines (take most_listed (drop (from - 1) t.reports)) ++ last_line (length t.reports))
+text_from from t = first_line t.name ++ (report_lines (take most_listed (drop (from - 1) t.reports)) ++ closing_line (length t.reports))
 
 text_of_queue : (c : Settings) (s : State) (from : ℕ) (q : Queue) → text_from from (rows_of_queue c s q) ≡ history_from from q
 text_of_queue c s from q =
-    λ k. first_line q.name ++ (lines_from (from - 1) q.reports k ++ last_line (length_reports 0 q.reports k))
+    λ k. first_line q.name ++ (lines_from (from - 1) q.reports k ++ closing_line (length_reports 0 q.reports k))
 
 module _ {W : Type 0} (held : W → Option (List ℕ)) (t0 t1 : Tap W) where
   -- what is written of a queue that is there

@@ -9,7 +9,7 @@ use Rattle.gate_types.specs.Once.{Content}
 use Rattle.gate_types.specs.declared.open_fault.OpenFault.{OpenFault}
 use Rattle.gate_types.specs.declared.open_fault.OpenFault.TheVariants as fault
 use Rattle.gate_types.specs.Tables.{Tables, tables}
-use Rattle.gate_memory.specs.Builds.{AreKept, HaveRoom}
+use Rattle.gate_memory.specs.Builds.{IsKeptBuildTable, HaveRoom}
 use Rattle.gate_memory.specs.Plans as plan
 use Rattle.gate_memory.specs.Changes as change
 use Rattle.gate_memory.specs.Drawn.{drawn_of}
@@ -31,20 +31,20 @@ abbrev pub held : Settings → Content → Held
 held c x = record { settings = c; tables = tables c x }
 
 -- where it has taken other settings
-abbrev pub adopted : Settings → Held → Held
-adopted d m = record { settings = d; tables = adopted_tables m.settings d m.tables }
+abbrev pub adopted_held : Settings → Held → Held
+adopted_held d m = record { settings = d; tables = adopted_tables m.settings d m.tables }
 
 -- why settings aren't taken, where they may be, and where they may not
-abbrev pub IsRefused : OpenFault → Bool → Type 0
-IsRefused fault.OtherSettings may = may ≡ false
-IsRefused fault.Unavailable may = ⊤
-IsRefused _ may = ⊥
+abbrev pub RefusesSettings : OpenFault → Bool → Type 0
+RefusesSettings fault.OtherSettings may = may ≡ false
+RefusesSettings fault.Unavailable may = ⊤
+RefusesSettings _ may = ⊥
 
 -- the tables that it keeps
 abbrev pub tables_of : MemTables → Tables
 tables_of t = record {
   changes = change.changes_of t.changes;
-  queues = map queue.rows_of t.queues.items;
+  queues = map queue.rows_of_table t.queues.items;
   plans = t.plans.rows.items;
   builds = t.builds.rows.items;
   counters = drawn_of t.drawn;
@@ -52,21 +52,21 @@ tables_of t = record {
 }
 
 -- each table is kept as it says
-pub record IsKept (t : MemTables) : Type 0 where
-  pub changes : change.IsKept t.changes
-  pub queues : AllByRecursion queue.IsKept t.queues.items
-  pub plans : plan.IsKept t.plans
-  pub builds : AreKept t.builds
-  pub replies : reply.IsKept t.replies
+pub record AreKeptTables (t : MemTables) : Type 0 where
+  pub changes : change.IsKeptChangeTable t.changes
+  pub queues : AllByRecursion queue.IsKeptQueueTable t.queues.items
+  pub plans : plan.IsKeptPlanTable t.plans
+  pub builds : IsKeptBuildTable t.builds
+  pub replies : reply.IsKeptReplyTable t.replies
 
 -- room for n more changes, which have m needs, and n more plans, builds and deliveries
 pub record HasRoomBeside (n m : ℕ) (t : MemTables) : Type 0 where
-  pub changes : change.HasRoom n m t.changes
-  pub plans : plan.HasRoom n t.plans
+  pub changes : change.HasRoomForChanges n m t.changes
+  pub plans : plan.HasRoomForPlans n t.plans
   pub builds : HaveRoom n t.builds
-  pub replies : reply.HasRoom n t.replies
+  pub replies : reply.HasRoomForReplies n t.replies
 
 -- room for n more rows in each table, where those of changes have m needs
-pub record HasRoom (n m : ℕ) (t : MemTables) : Type 0 where
-  pub queues : AllByRecursion (queue.HasRoom n) t.queues.items
+pub record HasRoomInAll (n m : ℕ) (t : MemTables) : Type 0 where
+  pub queues : AllByRecursion (queue.HasRoomForRows n) t.queues.items
   pub others : HasRoomBeside n m t

@@ -20,25 +20,26 @@ abbrev pub IsFed : {W : Type 0} → (W → Option (List ℕ)) → Tap W → Tap 
 IsFed held old new text result = MatchResult result (λ _. Took held old new text) (λ _. TookFront held old new text)
 
 -- what a fault leaves of the writer once something was written
-abbrev pub BreaksOff : {W : Type 0} → Tap W → FeedFault → Type 0
-BreaksOff new fault.NoDelivery = ⊥
-BreaksOff new fault.Unavailable = ⊥
-BreaksOff new fault.Broken = has_failed new ≡ false
-BreaksOff new fault.Write = has_failed new ≡ true
+abbrev pub BreaksOffFeed : {W : Type 0} → Tap W → FeedFault → Type 0
+BreaksOffFeed new fault.NoDelivery = ⊥
+BreaksOffFeed new fault.Unavailable = ⊥
+BreaksOffFeed new fault.Broken = has_failed new ≡ false
+BreaksOffFeed new fault.Write = has_failed new ≡ true
 
 -- the writer has not failed, or is left by a fault so
-abbrev pub LeavesTap : {W : Type 0} → Tap W → Result (Unit {0}) FeedFault → Type 0
-LeavesTap new result = MatchResult result (λ _. has_failed new ≡ false) (BreaksOff new)
+abbrev pub LeavesFeedTap : {W : Type 0} → Tap W → Result (Unit {0}) FeedFault → Type 0
+LeavesFeedTap new result = MatchResult result (λ _. has_failed new ≡ false) (BreaksOffFeed new)
 
 -- nothing is written, or a beginning
-abbrev pub LeavesLines : {W : Type 0} → (W → Option (List ℕ)) → Tap W → Tap W → List ℕ → FeedFault → Type 0
-LeavesLines held old new text fault.NoDelivery = ⊥
-LeavesLines held old new text fault.Unavailable = new ≡ old
-LeavesLines held old new text fault.Broken = TookFront held old new text × (has_failed new ≡ false)
-LeavesLines held old new text fault.Write = TookFront held old new text × (has_failed new ≡ true)
+abbrev pub LeavesKeptLines : {W : Type 0} → (W → Option (List ℕ)) → Tap W → Tap W → List ℕ → FeedFault → Type 0
+LeavesKeptLines held old new text fault.NoDelivery = ⊥
+LeavesKeptLines held old new text fault.Unavailable = new ≡ old
+LeavesKeptLines held old new text fault.Broken = TookFront held old new text × (has_failed new ≡ false)
+LeavesKeptLines held old new text fault.Write = TookFront held old new text × (has_failed new ≡ true)
 
 -- the front and so many lines are written, or what a fault leaves
-abbrev pub WritesLines : {W : Type 0} → (W → Option (List ℕ)) → Tap W → Tap W → List ℕ → ℕ → Result ℕ FeedFault → Type 0
-WritesLines held old new text count result =
+abbrev pub WritesKeptLines : {W : Type 0} → (W → Option (List ℕ)) → Tap W → Tap W → List ℕ → ℕ →
+    Result ℕ FeedFault → Type 0
+WritesKeptLines held old new text count result =
     MatchResult result (λ n. Took held old new text × (n ≡ count) × (has_failed new ≡ false))
-    (LeavesLines held old new text)
+    (LeavesKeptLines held old new text)

@@ -13,7 +13,7 @@ use gate_types::config::{Config, Queue};
 
 /// Where the queue of a name stands, if there is one.
 fn index_of(queues: &[QueueTable], name: &str) -> Option<usize>
-    requires { AllByRecursion queue.IsKept queues.now }
+    requires { AllByRecursion queue.IsKeptQueueTable queues.now }
     ensures { result ≡ position (λ q. same_name q.name name.now) queues.now }
 {
     queues.iter().position(|queue| queue.has_name(name))
@@ -21,13 +21,14 @@ fn index_of(queues: &[QueueTable], name: &str) -> Option<usize>
 
 /// Takes the queue of a name out, if there is one.
 fn take_named(queues: &mut Vec<QueueTable>, name: &str) -> Option<QueueTable>
-    requires { AllByRecursion queue.IsKept queues.old.items }
-    ensures found { option_map queue.rows_of result ≡ rows_named (map queue.rows_of queues.old.items) name.now }
+    requires { AllByRecursion queue.IsKeptQueueTable queues.old.items }
+    ensures found { option_map queue.rows_of_table result
+        ≡ rows_named (map queue.rows_of_table queues.old.items) name.now }
     ensures others { (other : List ℕ) → same_name name.now other ≡ false →
-        rows_named (map queue.rows_of queues.new.items) other
-        ≡ rows_named (map queue.rows_of queues.old.items) other }
-    ensures kept { AllByRecursion queue.IsKept queues.new.items }
-    ensures one { IfSome result queue.IsKept }
+        rows_named (map queue.rows_of_table queues.new.items) other
+        ≡ rows_named (map queue.rows_of_table queues.old.items) other }
+    ensures kept { AllByRecursion queue.IsKeptQueueTable queues.new.items }
+    ensures one { IfSome result queue.IsKeptQueueTable }
 {
     match index_of(queues, name) {
         None => None,
@@ -37,9 +38,9 @@ fn take_named(queues: &mut Vec<QueueTable>, name: &str) -> Option<QueueTable>
 
 /// A queue under its new setting.
 fn resized(held: &Config, setting: &Queue, table: QueueTable) -> QueueTable
-    requires { queue.IsKept table }
-    ensures rows { queue.rows_of result ≡ resized_rows held.now setting.now (queue.rows_of table) }
-    ensures kept { queue.IsKept result }
+    requires { queue.IsKeptQueueTable table }
+    ensures rows { queue.rows_of_table result ≡ resized_rows held.now setting.now (queue.rows_of_table table) }
+    ensures kept { queue.IsKeptQueueTable result }
 {
     let window = adopted_window(held, setting, Some(table.window()));
     table.resized(window)
@@ -53,12 +54,12 @@ pub(crate) fn adopt_queues(
     new_queues: &mut Vec<QueueTable>,
 )
     requires differ { are_distinct (map (λ q. q.name) settings.now) ≡ true }
-    requires kept { AllByRecursion queue.IsKept queues.old.items }
-    requires new_rows { map queue.rows_of new_queues.old.items ≡ map empty_rows settings.now }
-    requires new_kept { AllByRecursion queue.IsKept new_queues.old.items }
-    ensures rows { map queue.rows_of new_queues.new.items
-        ≡ map (adopted_rows held.now (map queue.rows_of queues.old.items)) settings.now }
-    ensures kept { AllByRecursion queue.IsKept new_queues.new.items }
+    requires kept { AllByRecursion queue.IsKeptQueueTable queues.old.items }
+    requires new_rows { map queue.rows_of_table new_queues.old.items ≡ map empty_rows settings.now }
+    requires new_kept { AllByRecursion queue.IsKeptQueueTable new_queues.old.items }
+    ensures rows { map queue.rows_of_table new_queues.new.items
+        ≡ map (adopted_rows held.now (map queue.rows_of_table queues.old.items)) settings.now }
+    ensures kept { AllByRecursion queue.IsKeptQueueTable new_queues.new.items }
 {
     for (index, setting) in settings.iter().enumerate() {
         if let Some(table) = take_named(queues, setting.name.as_str()) {

@@ -2,7 +2,7 @@
 ghost use Rattle.std.specs.Prelude.{◌≡◌, ◌++◌, false, length, take, IfOk, string_bytes};
 ghost use Rattle.gate_types.specs.Tap.{has_failed};
 ghost use Rattle.gate_archive.specs.Feed.{feed_lines};
-ghost use Rattle.gate_book.specs.Past.{IsFed, LeavesTap, WritesLines};
+ghost use Rattle.gate_book.specs.Past.{IsFed, LeavesFeedTap, WritesKeptLines};
 
 use gate_archive::{FeedFault, feed_line};
 use gate_types::names::NoMemory;
@@ -27,7 +27,7 @@ fn beginning(alloc: Global, kept: &[Kept]) -> Result<String, NoMemory>
 fn write_lines<W: Write>(alloc: Global, kept: &[Kept], w: &mut Tap<W>) -> Result<(), FeedFault>
     requires { has_failed w.old ≡ false }
     ensures text { IsFed W.contents w.old w.new (feed_lines kept.now) result }
-    ensures stops { LeavesTap w.new result }
+    ensures stops { LeavesFeedTap w.new result }
 {
     for one in kept {
         let Ok(line) = feed_line(alloc, one.id, one.said.as_str()) else {
@@ -42,7 +42,7 @@ fn write_lines<W: Write>(alloc: Global, kept: &[Kept], w: &mut Tap<W>) -> Result
 fn write_beginning<W: Write>(front: &[u8], text: &str, w: &mut Tap<W>) -> Result<(), FeedFault>
     requires { has_failed w.old ≡ false }
     ensures text { IsFed W.contents w.old w.new (front.now ++ text.now) result }
-    ensures stops { LeavesTap w.new result }
+    ensures stops { LeavesFeedTap w.new result }
 {
     w.write_all(front)?;
     w.write_all(text.as_bytes())?;
@@ -58,7 +58,7 @@ fn write_all_of<W: Write>(
     w: &mut Tap<W>,
 ) -> Result<u64, FeedFault>
     requires { has_failed w.old ≡ false }
-    ensures { WritesLines W.contents w.old w.new (front.now ++ feed_lines kept.now) (length kept.now) result }
+    ensures { WritesKeptLines W.contents w.old w.new (front.now ++ feed_lines kept.now) (length kept.now) result }
 {
     let (first, rest) = kept.split_at(kept.len().min(1));
     let Ok(text) = beginning(alloc, first) else {
@@ -85,7 +85,7 @@ pub(crate) fn write_feed<W: Write>(
     w: &mut Tap<W>,
 ) -> Result<u64, FeedFault>
     requires { has_failed w.old ≡ false }
-    ensures { WritesLines W.contents w.old w.new (front.now ++ feed_lines (take most kept.now))
+    ensures { WritesKeptLines W.contents w.old w.new (front.now ++ feed_lines (take most kept.now))
         (length (take most kept.now)) result }
 {
     write_all_of(alloc, first(kept, most), front, w)

@@ -3,7 +3,7 @@ ghost use Rattle.std.specs.Prelude.{◌≡◌, true, IfErr, IfOk, OnErr, OnOk};
 ghost use Rattle.gate_types.specs.Once.{Content, empty};
 ghost use Rattle.gate_types.specs.Adopt.{may_adopt, adopted_content};
 ghost use Rattle.gate_types.specs.Settings.{Settings};
-ghost use Rattle.gate_book.specs.Memory.{IsRefused, adopted, held, start_with};
+ghost use Rattle.gate_book.specs.Memory.{RefusesSettings, adopted_held, held, start_with};
 
 use crate::tables::MemTables;
 use crate::writing::write_history;
@@ -38,11 +38,11 @@ impl Model for MemBook {
 
     ghost Value = { Held };
 
-    ghost use Rattle.gate_book.specs.Memory.{tables_of, IsKept};
+    ghost use Rattle.gate_book.specs.Memory.{tables_of, AreKeptTables};
 
     ghost view = { λ m. record { settings = m.config; tables = tables_of m.tables } };
 
-    ghost invariant = { λ m. IsKept m.tables };
+    ghost invariant = { λ m. AreKeptTables m.tables };
 }
 
 /// Edits as values of their own.
@@ -90,11 +90,11 @@ impl MemBook {
     /// project with the same queue, else `OtherSettings`. `Unavailable` where memory is refused.
     pub fn adopt(&mut self, config: &Config) -> Result<(), OpenFault>
         ensures adopted { OnOk result ((may_adopt self.old.settings config.now ≡ true) ×
-            (self.new ≡ adopted config.now self.old)) }
+            (self.new ≡ adopted_held config.now self.old)) }
         ensures holds { (c : Settings) (x : Content) → self.old ≡ held c x →
             OnOk result (self.new ≡ held config.now (adopted_content c config.now x)) }
         ensures refused { OnErr result (self.new ≡ self.old) }
-        ensures fault { IfErr result (λ f. IsRefused f (may_adopt self.old.settings config.now)) }
+        ensures fault { IfErr result (λ f. RefusesSettings f (may_adopt self.old.settings config.now)) }
     {
         if !may_adopt(&self.config, config) {
             return Err(OpenFault::OtherSettings);

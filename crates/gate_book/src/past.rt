@@ -3,9 +3,9 @@ ghost use Rattle.std.specs.Prelude.{◌≡◌, ◌==◌, find, filter, length, m
 ghost use Rattle.std.specs.List.{AllByRecursion};
 ghost use Rattle.gate_archive.specs.Feed.{behind};
 ghost use Rattle.gate_archive.specs.ItemText.{last_of, summary_of};
-ghost use Rattle.gate_memory.specs.Builds.{is_of};
+ghost use Rattle.gate_memory.specs.Builds.{is_build_of};
 ghost use Rattle.gate_memory.specs.Queues as queue;
-ghost use Rattle.gate_book.specs.Memory.{tables_of, IsKept};
+ghost use Rattle.gate_book.specs.Memory.{tables_of, AreKeptTables};
 ghost use Rattle.gate_book.specs.Past.{all_left};
 
 use crate::tables::MemTables;
@@ -19,9 +19,9 @@ use std::alloc::Global;
 
 /// The report of the item of a serial that left, with the name of its queue.
 fn left_in(queues: &[QueueTable], serial: Serial) -> Result<Option<LeftItem>, NoMemory>
-    requires { AllByRecursion queue.IsKept queues.now }
+    requires { AllByRecursion queue.IsKeptQueueTable queues.now }
     ensures { IfOk result (λ found. found
-        ≡ find (λ l. l.report.serial == serial) (all_left (map queue.rows_of queues.now))) }
+        ≡ find (λ l. l.report.serial == serial) (all_left (map queue.rows_of_table queues.now))) }
 {
     for queue in queues {
         if let Some(found) = queue.left(serial)? {
@@ -34,7 +34,7 @@ fn left_in(queues: &[QueueTable], serial: Serial) -> Result<Option<LeftItem>, No
 impl MemTables {
     /// The report of the item of a serial that left, with the name of its queue.
     pub(crate) fn left(&self, serial: Serial) -> Result<Option<LeftItem>, NoMemory>
-        requires { IsKept self.now }
+        requires { AreKeptTables self.now }
         ensures { IfOk result (λ found. found
             ≡ find (λ l. l.report.serial == serial) (all_left (tables_of self.now).queues)) }
     {
@@ -43,8 +43,8 @@ impl MemTables {
 
     /// How many builds of a serial there are, live or not.
     pub(crate) fn build_count(&self, serial: Serial) -> u64
-        requires { IsKept self.now }
-        ensures { result ≡ length (filter (is_of serial) (tables_of self.now).builds) }
+        requires { AreKeptTables self.now }
+        ensures { result ≡ length (filter (is_build_of serial) (tables_of self.now).builds) }
     {
         self.builds.count_of(serial)
     }
@@ -56,16 +56,16 @@ impl MemTables {
         serial: Serial,
         most: u32,
     ) -> Result<Sequence<BuildSummary>, NoMemory>
-        requires { IsKept self.now }
+        requires { AreKeptTables self.now }
         ensures { IfOk result (λ found. found
-            ≡ map summary_of (last_of most (filter (is_of serial) (tables_of self.now).builds))) }
+            ≡ map summary_of (last_of most (filter (is_build_of serial) (tables_of self.now).builds))) }
     {
         self.builds.last_of(alloc, serial, most)
     }
 
     /// All deliveries, or those behind that of an id, if there is one.
     pub(crate) fn behind(&self, after: Option<Id>) -> Option<&[Kept]>
-        requires { IsKept self.now }
+        requires { AreKeptTables self.now }
         ensures there { IfSome result (λ ks. behind after (tables_of self.now).kept ≡ Some ks.now) }
         ensures missing { IfNone result (behind after (tables_of self.now).kept ≡ None) }
     {

@@ -8,12 +8,12 @@ ghost use Rattle.gate_types.specs.Tables.{edited_queue, edited_tables, fold_all,
 ghost use Rattle.gate_memory.specs.Changes as change_table;
 ghost use Rattle.gate_memory.specs.Queues as queue;
 ghost use Rattle.gate_memory.specs.Builds.{is_live_of};
-ghost use Rattle.gate_memory.specs.Needs.{needs_of, needs_of_all};
+ghost use Rattle.gate_memory.specs.Needs.{needs_brought, needs_of_all};
 ghost use Rattle.gate_book_trait.specs.Reads as read;
 ghost use Rattle.gate_book_trait.specs.RowReads.{approval_in, change_in, rows_named, items_named, needing_in};
-ghost use Rattle.gate_book_trait.specs.RowReads.{plans_of_rows, all_queued, landings_below, LandingsRise};
+ghost use Rattle.gate_book_trait.specs.RowReads.{plans_of_rows, all_queued, count_landings_below, LandingsRise};
 ghost use Rattle.gate_memory.specs.TableReads.{IsWhatRowsTellOf, builds_of_rows};
-ghost use Rattle.gate_book.specs.Memory.{tables_of, IsKept, HasRoom, HasRoomBeside, start_with};
+ghost use Rattle.gate_book.specs.Memory.{tables_of, AreKeptTables, HasRoomInAll, HasRoomBeside, start_with};
 ghost use Rattle.gate_types.specs.AdoptedTables.{adopted_tables, empty_rows};
 ghost use Rattle.gate_types.specs.Counters.{capped};
 
@@ -45,8 +45,8 @@ pub struct MemTables {
 
 /// The queues of the settings, with nothing in them.
 fn empty_queues(alloc: Global, settings: &[Queue]) -> Result<Vec<QueueTable>, NoMemory>
-    ensures rows { IfOk result (λ queues. map queue.rows_of queues.items ≡ map empty_rows settings.now) }
-    ensures kept { IfOk result (λ queues. AllByRecursion queue.IsKept queues.items) }
+    ensures rows { IfOk result (λ queues. map queue.rows_of_table queues.items ≡ map empty_rows settings.now) }
+    ensures kept { IfOk result (λ queues. AllByRecursion queue.IsKeptQueueTable queues.items) }
 {
     let mut queues = Vec::new(alloc);
     for setting in settings {
@@ -57,23 +57,23 @@ fn empty_queues(alloc: Global, settings: &[Queue]) -> Result<Vec<QueueTable>, No
 
 /// Makes room for `n` more rows in each queue.
 fn make_room_in(queues: &mut Vec<QueueTable>, n: usize) -> Result<(), AllocError>
-    requires { AllByRecursion queue.IsKept queues.old.items }
-    ensures rows { map queue.rows_of queues.new.items ≡ map queue.rows_of queues.old.items }
-    ensures kept { AllByRecursion queue.IsKept queues.new.items }
-    ensures room { OnOk result (AllByRecursion (queue.HasRoom n) queues.new.items) }
+    requires { AllByRecursion queue.IsKeptQueueTable queues.old.items }
+    ensures rows { map queue.rows_of_table queues.new.items ≡ map queue.rows_of_table queues.old.items }
+    ensures kept { AllByRecursion queue.IsKeptQueueTable queues.new.items }
+    ensures room { OnOk result (AllByRecursion (queue.HasRoomForRows n) queues.new.items) }
 {
     make_queues_room(queues, n)
 }
 
 /// One edit of each queue, where there is room.
 fn apply_in(queues: &mut Vec<QueueTable>, edit: &Edit)
-    requires kept { AllByRecursion queue.IsKept queues.old.items }
-    requires room { AllByRecursion (queue.HasRoom 1) queues.old.items }
-    ensures rows { map queue.rows_of queues.new.items
-        ≡ map (edited_queue edit.now) (map queue.rows_of queues.old.items) }
-    ensures kept { AllByRecursion queue.IsKept queues.new.items }
-    ensures room { (n : ℕ) → AllByRecursion (queue.HasRoom (suc n)) queues.old.items
-        → AllByRecursion (queue.HasRoom n) queues.new.items }
+    requires kept { AllByRecursion queue.IsKeptQueueTable queues.old.items }
+    requires room { AllByRecursion (queue.HasRoomForRows 1) queues.old.items }
+    ensures rows { map queue.rows_of_table queues.new.items
+        ≡ map (edited_queue edit.now) (map queue.rows_of_table queues.old.items) }
+    ensures kept { AllByRecursion queue.IsKeptQueueTable queues.new.items }
+    ensures room { (n : ℕ) → AllByRecursion (queue.HasRoomForRows (suc n)) queues.old.items
+        → AllByRecursion (queue.HasRoomForRows n) queues.new.items }
 {
     apply_to_queues(queues, edit);
 }
@@ -81,7 +81,7 @@ fn apply_in(queues: &mut Vec<QueueTable>, edit: &Edit)
 impl MemTables {
     pub(crate) fn new(alloc: Global, config: &Config, counters: Counters) -> Result<Self, NoMemory>
         ensures rows { IfOk result (λ t. tables_of t ≡ tables config.now (start_with config.now counters)) }
-        ensures kept { IfOk result IsKept }
+        ensures kept { IfOk result AreKeptTables }
     {
         Ok(MemTables {
             changes: ChangeTable::new(alloc),
@@ -101,10 +101,10 @@ impl MemTables {
         held: &Config,
         config: &Config,
     ) -> Result<(), NoMemory>
-        requires { IsKept self.old }
+        requires { AreKeptTables self.old }
         ensures ok { OnOk result (tables_of self.new ≡ adopted_tables held.now config.now (tables_of self.old)) }
         ensures err { OnErr result (self.new ≡ self.old) }
-        ensures kept { IsKept self.new }
+        ensures kept { AreKeptTables self.new }
     {
         let mut queues = empty_queues(alloc, config.queues.as_slice())?;
         adopt_queues(
@@ -119,10 +119,10 @@ impl MemTables {
 
     /// Makes room for `n` edits, of which the changes have so many needs. The tables stay, whatever the result.
     pub(crate) fn make_room(&mut self, n: usize, needs: usize) -> Result<(), AllocError>
-        requires { IsKept self.old }
+        requires { AreKeptTables self.old }
         ensures rows { tables_of self.new ≡ tables_of self.old }
-        ensures kept { IsKept self.new }
-        ensures room { OnOk result (HasRoom n needs self.new) }
+        ensures kept { AreKeptTables self.new }
+        ensures room { OnOk result (HasRoomInAll n needs self.new) }
     {
         self.changes.make_room(n, needs)?;
         make_room_in(&mut self.queues, n)?;
@@ -134,11 +134,11 @@ impl MemTables {
 
     /// One edit, where there is room.
     fn apply(&mut self, edit: Edit)
-        requires kept { IsKept self.old }
-        requires room { HasRoom 1 (needs_of edit) self.old }
+        requires kept { AreKeptTables self.old }
+        requires room { HasRoomInAll 1 (needs_brought edit) self.old }
         ensures rows { tables_of self.new ≡ edited_tables (tables_of self.old) edit }
-        ensures kept { IsKept self.new }
-        ensures room { (n m : ℕ) → HasRoom (suc n) (needs_of edit + m) self.old → HasRoom n m self.new }
+        ensures kept { AreKeptTables self.new }
+        ensures room { (n m : ℕ) → HasRoomInAll (suc n) (needs_brought edit + m) self.old → HasRoomInAll n m self.new }
     {
         apply_in(&mut self.queues, &edit);
         self.apply_to_others(edit);
@@ -146,13 +146,13 @@ impl MemTables {
 
     /// One edit of what isn't in a queue.
     fn apply_to_others(&mut self, edit: Edit)
-        requires kept { IsKept self.old }
-        requires room { HasRoomBeside 1 (needs_of edit) self.old }
+        requires kept { AreKeptTables self.old }
+        requires room { HasRoomBeside 1 (needs_brought edit) self.old }
         ensures rows { tables_of self.new
             ≡ record (edited_tables (tables_of self.old) edit) { queues = (tables_of self.old).queues } }
         ensures queues { self.new.queues ≡ self.old.queues }
-        ensures kept { IsKept self.new }
-        ensures room { (n m : ℕ) → HasRoomBeside (suc n) (needs_of edit + m) self.old → HasRoomBeside n m self.new }
+        ensures kept { AreKeptTables self.new }
+        ensures room { (n m : ℕ) → HasRoomBeside (suc n) (needs_brought edit + m) self.old → HasRoomBeside n m self.new }
     {
         match edit {
             Edit::PutChange { change, approval } => {
@@ -173,10 +173,10 @@ impl MemTables {
 
     /// All edits, where there is room.
     pub(crate) fn apply_all(&mut self, edits: Vec<Edit>)
-        requires kept { IsKept self.old }
-        requires room { HasRoom (length edits.items) (needs_of_all edits.items) self.old }
+        requires kept { AreKeptTables self.old }
+        requires room { HasRoomInAll (length edits.items) (needs_of_all edits.items) self.old }
         ensures rows { tables_of self.new ≡ fold_all (tables_of self.old) edits.items }
-        ensures kept { IsKept self.new }
+        ensures kept { AreKeptTables self.new }
     {
         for edit in edits {
             self.apply(edit);
@@ -185,40 +185,40 @@ impl MemTables {
 
     /// The queue that is called so, if one is.
     pub(crate) fn queue_called(&self, name: &str) -> Option<&QueueTable>
-        requires { IsKept self.now }
-        ensures found { option_map queue.rows_of (option_copied result)
+        requires { AreKeptTables self.now }
+        ensures found { option_map queue.rows_of_table (option_copied result)
             ≡ rows_named (tables_of self.now).queues name.now }
-        ensures kept { IfSome result (λ q. queue.IsKept q.now) }
+        ensures kept { IfSome result (λ q. queue.IsKeptQueueTable q.now) }
     {
         queue_in(&self.queues, name)
     }
 
     /// The queue of a name.
     pub(crate) fn queue_named(&self, name: &Name) -> Option<&QueueTable>
-        requires { IsKept self.now }
-        ensures found { option_map queue.rows_of (option_copied result)
+        requires { AreKeptTables self.now }
+        ensures found { option_map queue.rows_of_table (option_copied result)
             ≡ rows_named (tables_of self.now).queues name.now }
-        ensures kept { IfSome result (λ q. queue.IsKept q.now) }
+        ensures kept { IfSome result (λ q. queue.IsKeptQueueTable q.now) }
     {
         self.queue_called(name.as_str())
     }
 
     pub(crate) fn delivery(&self, id: &Id) -> Result<Option<Kept>, NoMemory>
-        requires { IsKept self.now }
+        requires { AreKeptTables self.now }
         ensures { IfOk result (λ found. found ≡ kept_for id.now (tables_of self.now).kept) }
     {
         self.replies.get(id)
     }
 
     pub(crate) fn change(&self, number: ChangeNo) -> Result<Option<Change>, NoMemory>
-        requires { IsKept self.now }
+        requires { AreKeptTables self.now }
         ensures { IfOk result (λ found. found ≡ change_in (tables_of self.now).changes number) }
     {
         self.changes.get(number)
     }
 
     pub(crate) fn landing_count(&self, queue: &Name) -> u64
-        requires { IsKept self.now }
+        requires { AreKeptTables self.now }
         ensures { result ≡ option_map_or (λ q. length q.landings) (rows_named (tables_of self.now).queues queue.now) 0 }
     {
         match self.queue_named(queue) {
@@ -228,7 +228,7 @@ impl MemTables {
     }
 
     pub(crate) fn reports(&self, queue: &Name) -> u64
-        requires { IsKept self.now }
+        requires { AreKeptTables self.now }
         ensures { result ≡ option_map_or (λ q. length q.reports) (rows_named (tables_of self.now).queues queue.now) 0 }
     {
         match self.queue_named(queue) {
@@ -239,9 +239,9 @@ impl MemTables {
 
     /// How many landings of a queue have a lower serial, where these rise.
     pub(crate) fn landing_before(&self, queue: &Name, serial: Serial) -> u64
-        requires { IsKept self.now }
+        requires { AreKeptTables self.now }
         ensures { AllByRecursion LandingsRise (tables_of self.now).queues
-            → result ≡ option_map_or (landings_below serial) (rows_named (tables_of self.now).queues queue.now) 0 }
+            → result ≡ option_map_or (count_landings_below serial) (rows_named (tables_of self.now).queues queue.now) 0 }
     {
         match self.queue_named(queue) {
             Some(queue) => queue.landings_before(serial),
@@ -250,7 +250,7 @@ impl MemTables {
     }
 
     pub(crate) fn item(&self, serial: Serial) -> Option<Item>
-        requires { IsKept self.now }
+        requires { AreKeptTables self.now }
         ensures { result
             ≡ option_map (λ k. k.item) (find (λ k. k.item.serial == serial) (all_queued (tables_of self.now).queues)) }
     {
@@ -258,7 +258,7 @@ impl MemTables {
     }
 
     pub(crate) fn queued(&self, change: ChangeNo) -> Result<Option<QueuedItem>, NoMemory>
-        requires { IsKept self.now }
+        requires { AreKeptTables self.now }
         ensures { IfOk result (λ found. found
             ≡ find (λ k. k.item.change == change) (all_queued (tables_of self.now).queues)) }
     {
@@ -272,7 +272,7 @@ impl MemTables {
         change: ChangeNo,
         above: u64,
     ) -> Result<Sequence<Item>, NoMemory>
-        requires { IsKept self.now }
+        requires { AreKeptTables self.now }
         ensures { let tables = tables_of self.now in IfOk result (λ found. found
             ≡ needing_in tables.changes change above (items_named tables.queues queue.now)) }
     {
@@ -286,7 +286,7 @@ impl MemTables {
     }
 
     pub(crate) fn plan(&self, serial: Serial) -> Result<Option<Plan>, NoMemory>
-        requires { IsKept self.now }
+        requires { AreKeptTables self.now }
         ensures { IfOk result (λ found. found ≡ find (λ p. p.serial == serial) (tables_of self.now).plans) }
     {
         self.plans.get(serial)
@@ -297,7 +297,7 @@ impl MemTables {
         alloc: Global,
         serial: Serial,
     ) -> Result<Sequence<Build>, NoMemory>
-        requires { IsKept self.now }
+        requires { AreKeptTables self.now }
         ensures { IfOk result (λ found. found ≡ filter (is_live_of serial) (tables_of self.now).builds) }
     {
         self.builds.live_of(alloc, serial)
@@ -305,7 +305,7 @@ impl MemTables {
 
     /// The items of a queue above one serial, up to another; none where there is no such queue.
     fn items_between(&self, queue: &Name, above: u64, last: Serial) -> &[Item]
-        requires { IsKept self.now }
+        requires { AreKeptTables self.now }
         ensures { result.now ≡ read.items_between above last (items_named (tables_of self.now).queues queue.now) }
     {
         match self.queue_named(queue) {
@@ -321,7 +321,7 @@ impl MemTables {
         above: u64,
         last: Serial,
     ) -> Result<Sequence<Plan>, NoMemory>
-        requires { IsKept self.now }
+        requires { AreKeptTables self.now }
         ensures { IfOk result (λ found. found ≡ plans_of_rows (tables_of self.now).plans
             (read.items_between above last (items_named (tables_of self.now).queues queue.now))) }
     {
@@ -335,7 +335,7 @@ impl MemTables {
         above: u64,
         last: Serial,
     ) -> Result<Sequence<Build>, NoMemory>
-        requires { IsKept self.now }
+        requires { AreKeptTables self.now }
         ensures { IfOk result (λ found. found ≡ builds_of_rows (tables_of self.now).builds
             (read.items_between above last (items_named (tables_of self.now).queues queue.now))) }
     {
@@ -343,7 +343,7 @@ impl MemTables {
     }
 
     pub(crate) fn build(&self, number: BuildNo) -> Result<Option<Build>, NoMemory>
-        requires { IsKept self.now }
+        requires { AreKeptTables self.now }
         ensures { IfOk result (λ found. found ≡ find (λ b. b.number == number) (tables_of self.now).builds) }
     {
         self.builds.get(number)
@@ -351,7 +351,7 @@ impl MemTables {
 
     /// The ready changes in order of approval: exact for any list that the rows tell.
     pub(crate) fn ready(&self, alloc: Global) -> Result<Sequence<Ready>, NoMemory>
-        requires { IsKept self.now }
+        requires { AreKeptTables self.now }
         ensures { IfOk result (change_table.IsWhatRowsTell (tables_of self.now).changes) }
     {
         self.changes.ready(alloc)
@@ -363,7 +363,7 @@ impl MemTables {
         alloc: Global,
         change: ChangeNo,
     ) -> Result<Sequence<Ready>, NoMemory>
-        requires { IsKept self.now }
+        requires { AreKeptTables self.now }
         ensures { IfOk result (IsWhatRowsTellOf (tables_of self.now).changes change) }
     {
         self.changes.ready_needing(alloc, change)
@@ -371,7 +371,7 @@ impl MemTables {
 
     /// The number of a change's approval, while it is ready.
     pub(crate) fn approval(&self, change: ChangeNo) -> Option<u64>
-        requires { IsKept self.now }
+        requires { AreKeptTables self.now }
         ensures { result ≡ approval_in (tables_of self.now).changes change }
     {
         self.changes.approval(change)

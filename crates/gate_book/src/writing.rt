@@ -1,7 +1,7 @@
 //! The history text of a queue's rows is written, line by line.
 ghost use Rattle.std.specs.Prelude.{◌≡◌, ◌++◌, false, IfOk, string_bytes};
 ghost use Rattle.gate_types.specs.Tap.{has_failed};
-ghost use Rattle.gate_book_trait.specs.Text.{first_line, report_lines, last_line, rows_text, IsWritten, LeavesTap};
+ghost use Rattle.gate_book_trait.specs.Text.{first_line, report_lines, closing_line, rows_text, IsWritten, LeavesTap};
 ghost use Rattle.gate_book_trait.specs.Text.{WritesText};
 
 use gate_book_trait::{HistoryFault, history_end, history_head, report_line};
@@ -45,7 +45,7 @@ fn write_lines<W: Write>(
 /// Writes the last line.
 fn write_end<W: Write>(alloc: Global, count: u64, w: &mut Tap<W>) -> Result<(), HistoryFault>
     requires { has_failed w.old ≡ false }
-    ensures text { IsWritten W.contents w.old w.new (last_line count) result }
+    ensures text { IsWritten W.contents w.old w.new (closing_line count) result }
     ensures stops { LeavesTap w.new result }
 {
     let Ok(line) = history_end(alloc, count) else {
@@ -63,7 +63,7 @@ fn write_rest<W: Write>(
     w: &mut Tap<W>,
 ) -> Result<(), HistoryFault>
     requires { has_failed w.old ≡ false }
-    ensures text { IsWritten W.contents w.old w.new (report_lines rows.now ++ last_line count) result }
+    ensures text { IsWritten W.contents w.old w.new (report_lines rows.now ++ closing_line count) result }
     ensures stops { LeavesTap w.new result }
 {
     write_lines(alloc, rows, w)?;
@@ -93,7 +93,7 @@ pub(crate) fn write_rows<W: Write>(
 ) -> Result<(), HistoryFault>
     requires { has_failed w.old ≡ false }
     ensures { WritesText W.contents w.old w.new
-        (front.now ++ (first_line name.now ++ (report_lines rows.now ++ last_line count))) result }
+        (front.now ++ (first_line name.now ++ (report_lines rows.now ++ closing_line count))) result }
 {
     let (first, rest) = rows.split_at(rows.len().min(1));
     let Ok(text) = beginning(alloc, name, first) else {

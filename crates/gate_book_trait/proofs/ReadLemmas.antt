@@ -21,13 +21,13 @@ use Rattle.gate_types.specs.declared.rows.ChangeRow.{ChangeRow}
 use Rattle.gate_types.specs.Settings.{Settings}
 use Rattle.gate_types.specs.Names.{same_name}
 use Rattle.gate_types.specs.State.{Queue, State, known_change, change_of, is_open}
-use Rattle.gate_types.specs.Rows.{item_rows, numbered}
+use Rattle.gate_types.specs.Rows.{item_rows, numbered_reports}
 use Rattle.gate_types.specs.Once.{Content}
 use Rattle.gate_types.specs.Tables.{QueueRows, approval_of, change_row, queue_rows, numbered_landings, tables}
 use Rattle.gate_types.specs.Forms.{IsLawfulContent, is_ready_in_form, is_drawn_number}
 use Rattle.gate_types.specs.Rising.{RisesFrom}
 use Rattle.gate_book_trait.specs.RowReads.{AreReady, Differ, approval_in, change_in, needs_in, rows_named}
-use Rattle.gate_book_trait.specs.RowReads.{items_named, landings_below, needing_in, ready_needing_in, all_queued}
+use Rattle.gate_book_trait.specs.RowReads.{items_named, count_landings_below, needing_in, ready_needing_in, all_queued}
 use Rattle.gate_book_trait.specs.RowReads.{LandingsRise, landing_serial}
 use Rattle.gate_book_trait.specs.Reads as read
 use Rattle.gate_book_trait.proofs.Finding.{find_map}
@@ -75,7 +75,7 @@ length_landings : (n : ℕ) (ls : List Landing) → length (numbered_landings n 
 length_landings n [] = refl
 length_landings n (l ∷ ls) = ap (λ m. suc m) (length_landings (suc n) ls)
 
-pub length_reports : (n : ℕ) (rs : List Report) → length (numbered n rs) ≡ length rs
+pub length_reports : (n : ℕ) (rs : List Report) → length (numbered_reports n rs) ≡ length rs
 length_reports n [] = refl
 length_reports n (r ∷ rs) = ap (λ m. suc m) (length_reports (suc n) rs)
 
@@ -108,10 +108,10 @@ below_is serial n (l ∷ ls) = by_serial (nat_lt l.serial serial) (below_is seri
     by_serial true rest = ap (λ m. suc m) rest
     by_serial false rest = rest
 
-pub landings_are : (c : Settings) (x : Content) (name : List ℕ) (serial : ℕ) → option_map_or (landings_below serial) (rows_named (tables c x).queues name) 0 ≡ read.landings_before x.state name serial
-landings_are c x name serial = ap (λ o. option_map_or (landings_below serial) o 0) (named_is c x name) ∙ by_found (read.queue_named x.state name)
+pub landings_are : (c : Settings) (x : Content) (name : List ℕ) (serial : ℕ) → option_map_or (count_landings_below serial) (rows_named (tables c x).queues name) 0 ≡ read.landings_before x.state name serial
+landings_are c x name serial = ap (λ o. option_map_or (count_landings_below serial) o 0) (named_is c x name) ∙ by_found (read.queue_named x.state name)
   where
-    by_found : (o : Option Queue) → option_map_or (landings_below serial) (option_map (rows_of_queue c x.state) o) 0 ≡ length (filter (λ l. nat_lt l.serial serial) (option_map_or (λ q. q.landings) o []))
+    by_found : (o : Option Queue) → option_map_or (count_landings_below serial) (option_map (rows_of_queue c x.state) o) 0 ≡ length (filter (λ l. nat_lt l.serial serial) (option_map_or (λ q. q.landings) o []))
     by_found None = refl
     by_found (Some q) = below_is serial 0 q.landings
 

@@ -76,8 +76,8 @@ abbrev pub items_between : ℕ → ℕ → List ItemRow → List ItemRow
 items_between above last items = filter (λ i. nat_lt above i.serial && nat_le i.serial last) items
 
 -- the last item of a queue below a serial
-abbrev pub last_below : ℕ → List ItemRow → Option ItemRow
-last_below serial items = fold (λ last i. Some i) None (filter (λ i. nat_lt i.serial serial) items)
+abbrev pub last_item_below : ℕ → List ItemRow → Option ItemRow
+last_item_below serial items = fold (λ last i. Some i) None (filter (λ i. nat_lt i.serial serial) items)
 
 -- the items of a queue above a serial whose change needs this one
 abbrev pub items_needing : State → ℕ → ℕ → List ItemRow → List ItemRow

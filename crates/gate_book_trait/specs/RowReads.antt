@@ -35,8 +35,8 @@ abbrev pub items_named : List QueueRows → List ℕ → List Item
 items_named queues name = option_map_or (λ q. q.items) (rows_named queues name) []
 
 -- how many landings have a lower serial
-abbrev pub landings_below : ℕ → QueueRows → ℕ
-landings_below serial q = length (filter (λ r. nat_lt r.landing.serial serial) q.landings)
+abbrev pub count_landings_below : ℕ → QueueRows → ℕ
+count_landings_below serial q = length (filter (λ r. nat_lt r.landing.serial serial) q.landings)
 
 -- the serial of a landing
 abbrev pub landing_serial : LandingRow → ℕ

@@ -18,12 +18,12 @@ abbrev pub report_lines : List ReportRow → List ℕ
 report_lines rows = flat_map (λ r. report_row (r.place, r.report)) rows
 
 -- the last line
-abbrev pub last_line : ℕ → List ℕ
-last_line count = row (codes "end" ∷ decimal count ∷ [])
+abbrev pub closing_line : ℕ → List ℕ
+closing_line count = row (codes "end" ∷ decimal count ∷ [])
 
 -- the whole text
 abbrev pub rows_text : List ℕ → List ReportRow → List ℕ
-rows_text name rows = first_line name ++ (report_lines rows ++ last_line (length rows))
+rows_text name rows = first_line name ++ (report_lines rows ++ closing_line (length rows))
 
 -- it was written, or a beginning where a fault came
 abbrev pub IsWritten : {W : Type 0} → (W → Option (List ℕ)) → Tap W → Tap W → List ℕ → Result (Unit {0}) HistoryFault →
@@ -32,15 +32,15 @@ IsWritten held old new text result =
     MatchResult result (λ _. Took held old new text) (λ _. TookFront held old new text)
 
 -- what a fault leaves of the writer once something was written
-abbrev pub BreaksOff : {W : Type 0} → Tap W → HistoryFault → Type 0
-BreaksOff new fault.NoQueue = ⊥
-BreaksOff new fault.Unavailable = ⊥
-BreaksOff new fault.Broken = has_failed new ≡ false
-BreaksOff new fault.Write = has_failed new ≡ true
+abbrev pub BreaksOffHistory : {W : Type 0} → Tap W → HistoryFault → Type 0
+BreaksOffHistory new fault.NoQueue = ⊥
+BreaksOffHistory new fault.Unavailable = ⊥
+BreaksOffHistory new fault.Broken = has_failed new ≡ false
+BreaksOffHistory new fault.Write = has_failed new ≡ true
 
 -- the writer has not failed, or is left by a fault so
 abbrev pub LeavesTap : {W : Type 0} → Tap W → Result (Unit {0}) HistoryFault → Type 0
-LeavesTap new result = MatchResult result (λ _. has_failed new ≡ false) (BreaksOff new)
+LeavesTap new result = MatchResult result (λ _. has_failed new ≡ false) (BreaksOffHistory new)
 
 -- nothing is written, or a beginning
 abbrev pub LeavesText : {W : Type 0} → (W → Option (List ℕ)) → Tap W → Tap W → List ℕ → HistoryFault → Type 0

@@ -28,12 +28,12 @@ WritesHistory s name front held old new result =
     MatchResult result (λ _. OfQueue s name front (Took held old new)) (LeavesHistory s name front held old new)
 
 -- what a fault leaves of the writer: it has failed at `Write` alone, and nothing was written before a first byte
-abbrev pub StopsBy : {W : Type 0} → Tap W → Tap W → HistoryFault → Type 0
-StopsBy old new fault.NoQueue = new ≡ old
-StopsBy old new fault.Unavailable = new ≡ old
-StopsBy old new fault.Broken = has_failed new ≡ false
-StopsBy old new fault.Write = has_failed new ≡ true
+abbrev pub StopsWriterBy : {W : Type 0} → Tap W → Tap W → HistoryFault → Type 0
+StopsWriterBy old new fault.NoQueue = new ≡ old
+StopsWriterBy old new fault.Unavailable = new ≡ old
+StopsWriterBy old new fault.Broken = has_failed new ≡ false
+StopsWriterBy old new fault.Write = has_failed new ≡ true
 
 -- the writer has not failed where all is written, or is left by a fault so
-abbrev pub Stops : {W : Type 0} → Tap W → Tap W → Result (Unit {0}) HistoryFault → Type 0
-Stops old new result = MatchResult result (λ _. has_failed new ≡ false) (StopsBy old new)
+abbrev pub StopsHistoryWriter : {W : Type 0} → Tap W → Tap W → Result (Unit {0}) HistoryFault → Type 0
+StopsHistoryWriter old new result = MatchResult result (λ _. has_failed new ≡ false) (StopsWriterBy old new)

@@ -24,7 +24,7 @@ pub trait Book {
     ghost use Rattle.gate_types.specs.Tap.{has_failed};
     ghost use Rattle.gate_book_trait.specs.Kept.{OfHeld, IsKept, IsApplied};
     ghost use Rattle.gate_book_trait.specs.Reading.{IsRead};
-    ghost use Rattle.gate_book_trait.specs.Writes.{WritesHistory, Stops};
+    ghost use Rattle.gate_book_trait.specs.Writes.{WritesHistory, StopsHistoryWriter};
 
     // While it answers at all, it answers by this content, under these settings.
     ghost Holds: { Self → Settings → Content → Type 0 };
@@ -97,7 +97,7 @@ pub trait Book {
     /// The last item of a queue with a lower serial than `below`.
     fn last_item(&mut self, queue: &Name, below: u64) -> Result<Option<Item>, BookFault>
         ensures reads { IsRead IsTrusted Holds LeavesOneOf MayFault self.old self.new (λ c x.
-            read.Answers (read.last_below below (read.items_in c x.state queue.now)) result) result }
+            read.Answers (read.last_item_below below (read.items_in c x.state queue.now)) result) result }
         ensures falls { IfOk result (λ found. IfSome found (λ i. i.serial < below)) };
 
     /// The first items of a queue with higher serials than `above`, front to back, no more than `most`.
@@ -190,7 +190,7 @@ pub trait Book {
         requires { has_failed w.old ≡ false }
         ensures found { OfHeld IsTrusted Holds self.old self.new (λ c x.
             WritesHistory x.state queue.now front.now W.contents w.old w.new result) }
-        ensures stops { Stops w.old w.new result }
+        ensures stops { StopsHistoryWriter w.old w.new result }
         ensures kept { IsKept IsTrusted Holds LeavesOneOf self.old self.new };
 
     /// All edits or none: all if they lead from the content that is held to a lawful one, none after a fault.

@@ -14,7 +14,7 @@ use Rattle.gate_types.specs.declared.records.Entry.{Entry}
 use Rattle.gate_build_queries.specs.declared.ahead.Progress.{Progress}
 use Rattle.gate_build_queries.specs.declared.ahead.Progress.TheVariants.{Start, Outer, Opened, InChange, Between}
 use Rattle.gate_build_queries.specs.declared.ahead.Progress.TheVariants.{InRevision, Closed, Next, End}
-use Rattle.gate_build_queries.specs.Ahead.{digit_of, grown, more_of, or_bad, step, ended, go}
+use Rattle.gate_build_queries.specs.Ahead.{digit_of, with_digit, more_of, progress_or_bad, step_byte, ended, go}
 use Rattle.gate_schema.specs.AheadText.{ahead_text, entries_text, entry_text}
 use Rattle.std.specs.List.{AllByRecursion, AllPass}
 
@@ -25,17 +25,17 @@ digit_at : (d : ℕ) → d < 10 → digit_of (48 + d) ≡ Some d
 digit_at d small = grind (arith, nat_tests)
 
 -- a number grows by a digit
-grown_is : (n d : ℕ) → 1 ≤ n → n ≤ 99999999 → grown n d ≡ Some (n * 10 + d)
+grown_is : (n d : ℕ) → 1 ≤ n → n ≤ 99999999 → with_digit n d ≡ Some (n * 10 + d)
 grown_is n d some small = grind (arith, nat_tests)
 
 -- a byte that ends no entry leads on to the next progress
-step_on : (p q : Progress) (es : List Entry) (c : ℕ) (rest : List ℕ) → step p c ≡ q → ended q ≡ [] → go p es (c ∷ rest) ≡ go q es rest
+step_on : (p q : Progress) (es : List Entry) (c : ℕ) (rest : List ℕ) → step_byte p c ≡ q → ended q ≡ [] → go p es (c ∷ rest) ≡ go q es rest
 step_on p q es c rest is none = ap (λ r. go r (es ++ ended r) rest) is ∙ ap (λ l. go q (es ++ l) rest) none ∙ ap (λ l. go q l rest) (append-nil es)
 
 -- a number is read digit by digit, from where none of it was read
 digits_read : (from : Progress) (at : ℕ → Progress) (es : List Entry)
-    → ((d : ℕ) → d < 10 → step from (48 + d) ≡ at d) → ((n : ℕ) → ended (at n) ≡ [])
-    → ((n d : ℕ) → d < 10 → 1 ≤ n → n ≤ 99999999 → step (at n) (48 + d) ≡ at (n * 10 + d))
+    → ((d : ℕ) → d < 10 → step_byte from (48 + d) ≡ at d) → ((n : ℕ) → ended (at n) ≡ [])
+    → ((n d : ℕ) → d < 10 → 1 ≤ n → n ≤ 99999999 → step_byte (at n) (48 + d) ≡ at (n * 10 + d))
     → (n : ℕ) → n ≤ 999999999 → (rest : List ℕ) → go from es (decimal n ++ rest) ≡ go (at n) es rest
 digits_read from at es first none more n small =
     decimal_by_steps (λ n ds. n ≤ 999999999 → (rest : List ℕ) → go from es (ds ++ rest) ≡ go (at n) es rest)
@@ -52,16 +52,16 @@ digits_read from at es first none more n small =
     n (omega arith) small
 
 -- so it is within the number of a change
-in_change : (n d : ℕ) → d < 10 → 1 ≤ n → n ≤ 99999999 → step (InChange n) (48 + d) ≡ InChange (n * 10 + d)
+in_change : (n d : ℕ) → d < 10 → 1 ≤ n → n ≤ 99999999 → step_byte (InChange n) (48 + d) ≡ InChange (n * 10 + d)
 in_change n d low some few =
     let other : eqb (48 + d) 44 ≡ false = grind (arith, nat_tests) in
-    rw other (ap (λ o. or_bad (more_of n o) (λ m. InChange m)) (digit_at d low) ∙ ap (λ o. or_bad o (λ m. InChange m)) (grown_is n d some few))
+    rw other (ap (λ o. progress_or_bad (more_of n o) (λ m. InChange m)) (digit_at d low) ∙ ap (λ o. progress_or_bad o (λ m. InChange m)) (grown_is n d some few))
 
 -- and within a revision
-in_revision : (c n d : ℕ) → d < 10 → 1 ≤ n → n ≤ 99999999 → step (InRevision c n) (48 + d) ≡ InRevision c (n * 10 + d)
+in_revision : (c n d : ℕ) → d < 10 → 1 ≤ n → n ≤ 99999999 → step_byte (InRevision c n) (48 + d) ≡ InRevision c (n * 10 + d)
 in_revision c n d low some few =
     let other : eqb (48 + d) 93 ≡ false = grind (arith, nat_tests) in
-    rw other (ap (λ o. or_bad (more_of n o) (λ m. InRevision c m)) (digit_at d low) ∙ ap (λ o. or_bad o (λ m. InRevision c m)) (grown_is n d some few))
+    rw other (ap (λ o. progress_or_bad (more_of n o) (λ m. InRevision c m)) (digit_at d low) ∙ ap (λ o. progress_or_bad o (λ m. InRevision c m)) (grown_is n d some few))
 
 -- ---- an entry
 
@@ -74,7 +74,7 @@ revision_is_small : (n : ℕ) → is_revision_number n ≡ true → n ≤ 999999
 revision_is_small n h = grind (arith, nat_tests)
 
 -- its closing bracket
-closes : (e : Entry) → is_revision_number e.revision ≡ true → step (InRevision e.change e.revision) 93 ≡ Closed e
+closes : (e : Entry) → is_revision_number e.revision ≡ true → step_byte (InRevision e.change e.revision) 93 ≡ Closed e
 closes e h = rw h refl
 
 -- an entry is read behind its bracket
@@ -83,9 +83,9 @@ entry_read : (e : Entry) (es : List Entry) (rest : List ℕ) → is_entry_in_for
 entry_read e es rest form =
     let change = first_of_both _ _ form in
     let revision = second_of_both _ _ form in
-    digits_read Opened (λ n. InChange n) es (λ d low. ap (λ o. or_bad o (λ n. InChange n)) (digit_at d low)) (λ n. refl) in_change e.change (change_is_small e.change change) _
+    digits_read Opened (λ n. InChange n) es (λ d low. ap (λ o. progress_or_bad o (λ n. InChange n)) (digit_at d low)) (λ n. refl) in_change e.change (change_is_small e.change change) _
     ∙ step_on (InChange e.change) (Between e.change) es 44 (decimal e.revision ++ 93 ∷ rest) (rw change refl) refl
-    ∙ digits_read (Between e.change) (λ r. InRevision e.change r) es (λ d low. ap (λ o. or_bad o (λ r. InRevision e.change r)) (digit_at d low)) (λ n. refl) (in_revision e.change) e.revision (revision_is_small e.revision revision) _
+    ∙ digits_read (Between e.change) (λ r. InRevision e.change r) es (λ d low. ap (λ o. progress_or_bad o (λ r. InRevision e.change r)) (digit_at d low)) (λ n. refl) (in_revision e.change) e.revision (revision_is_small e.revision revision) _
     ∙ ap (λ q. go q (es ++ ended q) rest) (closes e revision)
 
 -- an entry's text before another

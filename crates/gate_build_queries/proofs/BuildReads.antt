@@ -19,7 +19,7 @@ use Rattle.gate_schema.proofs.Statements.{key_is, no_limit}
 use Rattle.gate_schema.proofs.ValueLemmas.{equal_numbers}
 use Rattle.gate_found_rows.specs.Asked.{builds_between, stored_live_builds}
 use Rattle.gate_found_rows.specs.Finds.{Finds}
-use Rattle.gate_found_rows.specs.Reads.{IsShown}
+use Rattle.gate_found_rows.specs.Reads.{IsStoredIn}
 use Rattle.gate_found_rows.specs.Whole.{IsWhole, is_build_row_in_form}
 use Rattle.gate_build_queries.proofs.BetweenReads.{between_params, between_query, finds_between}
 use Rattle.gate_build_queries.proofs.BuildTexts.{between_asks, between_live, between_sql, between_terms, build_asks}
@@ -32,7 +32,7 @@ use Rattle.gate_found_rows.proofs.ReadLemmas.{answers}
 use Rattle.gate_found_rows.proofs.ShownLemmas.{pass_filter, pass_flat}
 
 -- the build of a number
-pub build_found : (s : State) (b : Stored) (n : ℕ) (rows : List Row) → IsShown s b → Finds build_sql (Int (pos n) ∷ []) s.now rows
+pub build_found : (s : State) (b : Stored) (n : ℕ) (rows : List Row) → IsStoredIn s b → Finds build_sql (Int (pos n) ∷ []) s.now rows
     → rows ≡ map build_shown (filter (λ y. eqb (build_key y) n) b.builds)
 build_found s b n rows shows finds =
     let params = Int (pos n) ∷ [] in
@@ -54,7 +54,7 @@ swapped false true = refl
 swapped false false = refl
 
 -- the live builds of a serial
-pub live_found : (s : State) (b : Stored) (n : ℕ) (rows : List Row) → IsShown s b → Finds live_sql (Int (pos n) ∷ []) s.now rows
+pub live_found : (s : State) (b : Stored) (n : ℕ) (rows : List Row) → IsStoredIn s b → Finds live_sql (Int (pos n) ∷ []) s.now rows
     → rows ≡ map build_shown (filter (λ y. y.live && eqb y.serial n) b.builds)
 live_found s b n rows shows finds =
     let params = Int (pos n) ∷ [] in
@@ -64,7 +64,7 @@ live_found s b n rows shows finds =
     (answers s live_sql live_query build_names params rows live_asks shows.schema_is finds)
 
 -- the live builds of the items of a queue between two serials
-pub between_found : (s : State) (b : Stored) (name : List ℕ) (above last : ℕ) (rows : List Row) → IsShown s b → IsWhole b
+pub between_found : (s : State) (b : Stored) (name : List ℕ) (above last : ℕ) (rows : List Row) → IsStoredIn s b → IsWhole b
     → Finds between_sql (between_params name (capped above) last) s.now rows → rows ≡ map build_shown (builds_between b name above last)
 between_found s b name above last rows shows whole finds =
     let params = between_params name (capped above) last in

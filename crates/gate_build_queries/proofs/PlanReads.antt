@@ -22,7 +22,7 @@ use Rattle.gate_schema.proofs.Statements.{key_is, no_limit}
 use Rattle.gate_schema.proofs.ValueLemmas.{equal_numbers}
 use Rattle.gate_found_rows.specs.Asked.{stored_jobs_of}
 use Rattle.gate_found_rows.specs.Finds.{Finds}
-use Rattle.gate_found_rows.specs.Reads.{IsShown}
+use Rattle.gate_found_rows.specs.Reads.{IsStoredIn}
 use Rattle.gate_found_rows.specs.Shown.{job_shown, number_shown}
 use Rattle.gate_found_rows.specs.Whole.{IsWhole, is_job_row_in_form}
 use Rattle.gate_found_rows.proofs.KeyedReads.{finds_few, one_at}
@@ -46,7 +46,7 @@ places_rise n from [] = tt
 places_rise n from (j ∷ js) = (places_above n (suc from) from js (omega arith), places_rise n (suc from) js)
 
 -- the jobs under a serial
-pub jobs_found : (s : State) (b : Stored) (n : ℕ) (rows : List Row) → IsShown s b → IsWhole b → Finds jobs_sql (Int (pos n) ∷ []) s.now rows
+pub jobs_found : (s : State) (b : Stored) (n : ℕ) (rows : List Row) → IsStoredIn s b → IsWhole b → Finds jobs_sql (Int (pos n) ∷ []) s.now rows
     → rows ≡ map job_shown (stored_jobs_of b n)
 jobs_found s b n rows shows whole finds =
     let params = Int (pos n) ∷ [] in
@@ -75,7 +75,7 @@ jobs_in_form n b whole =
 -- ---- whether it fails fast
 
 -- the mark of a serial
-pub fast_found : (s : State) (b : Stored) (n : ℕ) (rows : List Row) → IsShown s b → Finds fast_sql (Int (pos n) ∷ []) s.now rows
+pub fast_found : (s : State) (b : Stored) (n : ℕ) (rows : List Row) → IsStoredIn s b → Finds fast_sql (Int (pos n) ∷ []) s.now rows
     → rows ≡ map number_shown (filter (λ m. eqb m n) b.fast)
 fast_found s b n rows shows finds =
     let params = Int (pos n) ∷ [] in

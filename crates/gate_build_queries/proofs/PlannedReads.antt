@@ -27,7 +27,7 @@ use Rattle.gate_schema.proofs.ValueLemmas.{equal_numbers}
 use Rattle.gate_found_rows.specs.Asked.{stored_jobs_of, plan_with, plans_between}
 use Rattle.gate_found_rows.specs.Finds.{Finds}
 use Rattle.gate_build_queries.specs.Planned.{jobs_between, marked_between, plans_of}
-use Rattle.gate_found_rows.specs.Reads.{IsShown}
+use Rattle.gate_found_rows.specs.Reads.{IsStoredIn}
 use Rattle.gate_found_rows.specs.Shown.{number_shown, planned_shown}
 use Rattle.gate_found_rows.specs.Whole.{IsWhole, is_item_row_in_form, is_job_row_in_form, is_planned_in_form}
 use Rattle.gate_build_queries.proofs.BetweenReads.{between_params, between_query, finds_between}
@@ -44,7 +44,7 @@ use Rattle.gate_found_rows.proofs.ReadLemmas.{answers}
 -- ---- the rows
 
 -- the rows of the jobs of the items of a queue between two serials
-pub planned_found : (s : State) (b : Stored) (name : List ℕ) (above last : ℕ) (rows : List Row) → IsShown s b → IsWhole b
+pub planned_found : (s : State) (b : Stored) (name : List ℕ) (above last : ℕ) (rows : List Row) → IsStoredIn s b → IsWhole b
     → Finds planned_sql (between_params name (capped above) last) s.now rows → rows ≡ map planned_shown (jobs_between b name above last)
 planned_found s b name above last rows shows whole finds =
     let params = between_params name (capped above) last in
@@ -58,7 +58,7 @@ planned_found s b name above last rows shows whole finds =
     ∙ sym (map-flat_map planned_shown (λ (i : Item). filter (λ (x : JobRow). eqb x.serial i.serial) b.jobs) (items_between above last (items_of name b.items)))
 
 -- the marks of those that fail fast
-pub marked_found : (s : State) (b : Stored) (name : List ℕ) (above last : ℕ) (rows : List Row) → IsShown s b → IsWhole b
+pub marked_found : (s : State) (b : Stored) (name : List ℕ) (above last : ℕ) (rows : List Row) → IsStoredIn s b → IsWhole b
     → Finds marked_sql (between_params name (capped above) last) s.now rows → rows ≡ map number_shown (marked_between b name above last)
 marked_found s b name above last rows shows whole finds =
     let params = between_params name (capped above) last in
@@ -104,14 +104,14 @@ module _ (b : Stored) (name : List ℕ) (above last : ℕ) where
   -- ---- what is made of them
 
   -- their serials rise
-  items_rise : (s : State) → IsShown s b → IsAscending (λ (i k : Item). i.serial < k.serial) items
+  items_rise : (s : State) → IsStoredIn s b → IsAscending (λ (i k : Item). i.serial < k.serial) items
   items_rise s shows =
       ascending-filter _ _ (items_of name b.items) (ascending-map (λ (i k : Item). i.serial < k.serial) (λ (r : ItemRow). r.item) _
       (ascending-filter _ (λ (r : ItemRow). same_name r.queue name) b.items
       (ascending_weaker _ (λ (r t : ItemRow). item_key r < item_key t) (λ r t less. omega (arith, ints)) b.items shows.stands.item.in_order)))
 
   -- so the plans that are put together are the items' plans
-  pub put_together : (s : State) → IsShown s b → plans_of (marked_between b name above last) (jobs_between b name above last) ≡ plans_between b name above last
+  pub put_together : (s : State) → IsStoredIn s b → plans_of (marked_between b name above last) (jobs_between b name above last) ≡ plans_between b name above last
   put_together s shows =
       plans_are (marked_between b name above last) b.jobs items (items_rise s shows)
       ∙ flat_alike _ _ items (λ i h. ap (λ fast. Rattle.std.specs.Prelude.option_to_list (plan_with i.serial fast (stored_jobs_of b i.serial))) (marked_alike b.fast items i h))

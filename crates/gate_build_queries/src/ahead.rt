@@ -6,7 +6,8 @@ ghost use Rattle.sqlite_value.specs.Order.{column};
 ghost use Rattle.sqlite.specs.declared.types.Value.TheVariants.{Text};
 ghost use Rattle.gate_types.specs.Forms.{is_entry_in_form};
 ghost use Rattle.gate_schema.specs.AheadText.{ahead_text};
-ghost use Rattle.gate_build_queries.specs.Ahead.{digit_of, ended, go, grown, step, step_in_change, step_in_revision};
+ghost use Rattle.gate_build_queries.specs.Ahead.{digit_of, ended, go, with_digit, step_byte, step_in_change};
+ghost use Rattle.gate_build_queries.specs.Ahead.{step_in_revision};
 
 use gate_book_trait::BookFault;
 use gate_rows::write_ahead;
@@ -52,7 +53,7 @@ fn digit(byte: u8) -> Option<u8>
 
 /// The number with a digit more. None where it began with 0, or grows past 999,999,999.
 fn grow(number: u64, digit: u8) -> Option<u64>
-    ensures { result ≡ grown number digit }
+    ensures { result ≡ with_digit number digit }
 {
     if number == 0 || number > 99_999_999 {
         None
@@ -101,7 +102,7 @@ fn next_in_revision(change: ChangeNo, number: u64, byte: u8) -> Progress
 
 /// The progress behind a byte.
 fn next_progress(progress: Progress, byte: u8) -> Progress
-    ensures { result ≡ step progress byte }
+    ensures { result ≡ step_byte progress byte }
 {
     match progress {
         Progress::Start if byte == b'[' => Progress::Outer,

@@ -24,7 +24,7 @@ use Rattle.gate_schema.proofs.QueryLemmas.{passes}
 use Rattle.gate_schema.proofs.Statements.{key_is, no_limit}
 use Rattle.gate_schema.proofs.ValueLemmas.{equal_numbers}
 use Rattle.gate_found_rows.specs.Finds.{Finds}
-use Rattle.gate_found_rows.specs.Reads.{IsShown}
+use Rattle.gate_found_rows.specs.Reads.{IsStoredIn}
 use Rattle.gate_found_rows.specs.Shown.{approval_shown, change_shown, number_shown}
 use Rattle.gate_found_rows.specs.Whole.{IsWhole, is_change_row_in_form}
 use Rattle.gate_change_queries.proofs.ChangeTexts.{approval_asks, approval_query, approval_sql, change_asks}
@@ -39,7 +39,7 @@ use Rattle.gate_found_rows.proofs.ShownLemmas.{pass_filter}
 -- ---- a change without its needs
 
 -- the change of a number
-pub change_found : (s : State) (b : Stored) (n : ℕ) (rows : List Row) → IsShown s b → Finds change_sql (Int (pos n) ∷ []) s.now rows
+pub change_found : (s : State) (b : Stored) (n : ℕ) (rows : List Row) → IsStoredIn s b → Finds change_sql (Int (pos n) ∷ []) s.now rows
     → rows ≡ map change_shown (map (λ (r : ChangeRow). r.change) (filter (λ r. eqb (change_key r) n) b.changes))
 change_found s b n rows shows finds =
     let params = Int (pos n) ∷ [] in
@@ -67,7 +67,7 @@ needed_are n from [] = refl
 needed_are n from (m ∷ ns) = ap (λ l. number_shown m ∷ l) (needed_are n (suc from) ns)
 
 -- the needs of a change
-pub needs_found : (s : State) (b : Stored) (n : ℕ) (rows : List Row) → IsShown s b → IsWhole b → Finds needs_sql (Int (pos n) ∷ []) s.now rows
+pub needs_found : (s : State) (b : Stored) (n : ℕ) (rows : List Row) → IsStoredIn s b → IsWhole b → Finds needs_sql (Int (pos n) ∷ []) s.now rows
     → rows ≡ map number_shown (needs_in b.changes n)
 needs_found s b n rows shows whole finds =
     let params = Int (pos n) ∷ [] in
@@ -100,7 +100,7 @@ needs_in_form n rows all = of_found (find (λ (r : ChangeRow). eqb r.change.numb
         (all-filter (λ (r : ChangeRow). is_change_row_in_form r ≡ true) (λ (r : ChangeRow). eqb r.change.number n) rows (recursion_from_All (λ (r : ChangeRow). is_change_row_in_form r ≡ true) rows all))
 
 -- the change that is found has the number and the needs, and is in form
-pub changes_as : (n : ℕ) (needs : List ℕ) (b : Stored) (s : State) → IsShown s b → IsWhole b → needs ≡ needs_in b.changes n
+pub changes_as : (n : ℕ) (needs : List ℕ) (b : Stored) (s : State) → IsStoredIn s b → IsWhole b → needs ≡ needs_in b.changes n
     → All (λ (k : Change). (k.number ≡ n) × (k.needs ≡ needs) × (is_change_in_form k ≡ true)) (map (λ (r : ChangeRow). r.change) (filter (λ r. eqb (change_key r) n) b.changes))
 changes_as n needs b s shows whole are =
     go (filter (λ (r : ChangeRow). eqb (change_key r) n) b.changes) (one_at change_key n b.changes shows.stands.change.in_order)
@@ -118,7 +118,7 @@ changes_as n needs b s shows whole are =
 -- ---- its approval
 
 -- the number of its approval
-pub approval_found : (s : State) (b : Stored) (n : ℕ) (rows : List Row) → IsShown s b → Finds approval_sql (Int (pos n) ∷ []) s.now rows
+pub approval_found : (s : State) (b : Stored) (n : ℕ) (rows : List Row) → IsStoredIn s b → Finds approval_sql (Int (pos n) ∷ []) s.now rows
     → rows ≡ map approval_shown (filter (λ r. eqb (change_key r) n) b.changes)
 approval_found s b n rows shows finds =
     let params = Int (pos n) ∷ [] in

@@ -24,7 +24,7 @@ use Rattle.gate_schema.proofs.QueryLemmas.{over_table, passes}
 use Rattle.gate_schema.proofs.Statements.{Asks, key_is, no_limit}
 use Rattle.gate_schema.proofs.ValueLemmas.{equal_blobs}
 use Rattle.gate_found_rows.specs.Finds.{Finds}
-use Rattle.gate_found_rows.specs.Reads.{IsShown}
+use Rattle.gate_found_rows.specs.Reads.{IsStoredIn}
 use Rattle.gate_found_rows.specs.Shown.{kept_shown}
 use Rattle.gate_found_rows.specs.Whole.{IsWhole}
 use Rattle.gate_schema.proofs.ListedQueries.{listed_few, told_behind}
@@ -54,7 +54,7 @@ one_kept : (id : Id) (ks : List Kept) → AllPairs (λ (k l : Kept). k.id ≢ l.
 one_kept id ks differ = few_pass (λ (k l : Kept). k.id ≢ l.id) (λ (k : Kept). same_name k.id.0 id.0) (λ k l one other apart. apart (same_id k.id id one ∙ sym (same_id l.id id other))) ks differ
 
 -- what is kept under an id
-pub delivery_found : (s : State) (b : Stored) (id : Id) (rows : List Row) → IsShown s b → IsWhole b → Finds delivery_sql (Octets id.0 ∷ []) s.now rows
+pub delivery_found : (s : State) (b : Stored) (id : Id) (rows : List Row) → IsStoredIn s b → IsWhole b → Finds delivery_sql (Octets id.0 ∷ []) s.now rows
     → rows ≡ map kept_shown (filter (λ (k : Kept). same_name k.id.0 id.0) b.kept)
 delivery_found s b id rows shows whole finds =
     let params = Octets id.0 ∷ [] in

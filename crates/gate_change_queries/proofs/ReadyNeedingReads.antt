@@ -28,12 +28,12 @@ use Rattle.gate_types.specs.Forms.{is_drawn_number, is_ready_in_form}
 use Rattle.gate_types.specs.declared.records.Ready.{Ready}
 use Rattle.gate_types.specs.declared.rows.ChangeRow.{ChangeRow}
 use Rattle.gate_schema.specs.Rows.{NeedRow, Stored, change_key, change_table_row, need_columns, number_or_null}
-use Rattle.gate_schema.specs.Shown.{needs_it}
+use Rattle.gate_schema.specs.Shown.{needs_among}
 use Rattle.gate_schema.proofs.Statements.{Asks}
 use Rattle.gate_schema.proofs.ValueLemmas.{above_number, equal_numbers}
 use Rattle.gate_found_rows.specs.Asked.{AreReadyNeeding, ready_row, ready_rows}
 use Rattle.gate_found_rows.specs.Finds.{Finds}
-use Rattle.gate_found_rows.specs.Reads.{IsShown}
+use Rattle.gate_found_rows.specs.Reads.{IsStoredIn}
 use Rattle.gate_found_rows.specs.Shown.{number_shown, ready_shown}
 use Rattle.gate_found_rows.specs.Whole.{IsWhole, is_change_row_in_form}
 use Rattle.gate_found_rows.proofs.DistinctLemmas.{has_in, has_of, has_permuted, shows_once}
@@ -92,7 +92,7 @@ above_or_null (Some a) = above_number a 0
 
 -- the ready changes that need the other, in order of approval
 abbrev pub needing_list : Stored → ℕ → List Ready
-needing_list b needed = filter (λ (r : Ready). needs_it b.needs needed r.change) (ready_list b)
+needing_list b needed = filter (λ (r : Ready). needs_among b.needs needed r.change) (ready_list b)
 
 module _ (b : Stored) (whole : IsWhole b) (needed : ℕ) where
   -- a need's row and a change's pass where the change is ready and has the need
@@ -117,20 +117,20 @@ module _ (b : Stored) (whole : IsWhole b) (needed : ℕ) where
       let second = and_parts _ _ first.1 in
       by_approval k.approval refl second.1 (needs_by b.needs n needed (change_key k) h first.0 second.0)
     where
-      by_approval : (o : Option ℕ) → k.approval ≡ o → option_map_or (λ a. ltb 0 a) o false ≡ true → needs_it b.needs needed (change_key k) ≡ true
+      by_approval : (o : Option ℕ) → k.approval ≡ o → option_map_or (λ a. ltb 0 a) o false ≡ true → needs_among b.needs needed (change_key k) ≡ true
           → (r : Ready) × Has (needing_list b needed) r × (out (change_key k) k.approval ≡ out r.change (Some r.approval))
       by_approval None e is needs = absurd (false≢true is)
       by_approval (Some a) e is needs =
           let r : Ready = record { approval = a; change = change_key k } in
           let told : Has (ready_row k) r = subst (λ o. Has (option_map_or (λ a. (record { approval = a; change = change_key k }) ∷ []) o []) r) (sym e) (inl refl) in
           let ready = has_permuted (ready_rows b.changes) (ready_list b) r (in_order_same approval_of (ready_rows b.changes) whole.approvals_differ) (has_in ready_row b.changes k r known told) in
-          (r, has_kept (λ (r : Ready). needs_it b.needs needed r.change) (ready_list b) r ready needs, ap (out (change_key k)) e)
+          (r, has_kept (λ (r : Ready). needs_among b.needs needed r.change) (ready_list b) r ready needs, ap (out (change_key k)) e)
 
   -- each of those is a change that passes
   passing_for : (r : Ready) → Has (needing_list b needed) r
       → (n : NeedRow) × (k : ChangeRow) × Has b.needs n × Has b.changes k × (is_need_of needed n k ≡ true) × (out (change_key k) k.approval ≡ out r.change (Some r.approval))
   passing_for r h =
-      let passed = has_filtered (λ (r : Ready). needs_it b.needs needed r.change) (ready_list b) r h in
+      let passed = has_filtered (λ (r : Ready). needs_among b.needs needed r.change) (ready_list b) r h in
       let row = has_of ready_row b.changes r (has_permuted (ready_list b) (ready_rows b.changes) r (IsPermutation-sym _ _ (in_order_same approval_of (ready_rows b.changes) whole.approvals_differ)) passed.0) in
       let need = need_of b.needs needed r.change passed.1 in
       let form = and_parts _ _ (all_has (λ k. is_change_row_in_form k ≡ true) b.changes row.0 (recursion_from_All (λ k. is_change_row_in_form k ≡ true) b.changes whole.changes) row.1) in
@@ -153,18 +153,18 @@ module _ (b : Stored) (whole : IsWhole b) (needed : ℕ) where
           ]
 
   -- so they are shown
-  pub needing_found : (s : State) (rows : List Row) → IsShown s b → Finds needing_sql (params_of needed) s.now rows → rows ≡ map ready_shown (needing_list b needed)
+  pub needing_found : (s : State) (rows : List Row) → IsStoredIn s b → Finds needing_sql (params_of needed) s.now rows → rows ≡ map ready_shown (needing_list b needed)
   needing_found s rows shown finds =
       shows_once (λ r n. drop 1 r ≡ need_columns n) (λ v k. v ≡ change_table_row k) 9 7 needing_test needing_terms (col 2 5) (Binary ∷ []) (params_of needed)
       (is_need_of needed) (λ n k. out (change_key k) k.approval) passes_both shows_change approval_of (λ (r : Ready). number_shown r.change)
       b.needs b.changes (needing_list b needed) listed passing_for
       (overlay s.now.trees []) rows (listed_told need_columns (s.now.trees 9) b.needs shown.stands.need.columns_are) (keyed_told change_key change_table_row (s.now.trees 7) b.changes shown.stands.change)
-      (ascending-filter (λ (q r : Ready). pos q.approval <ℤ pos r.approval) (λ (r : Ready). needs_it b.needs needed r.change) (ready_list b) (in_order_rises approval_of (ready_rows b.changes)))
+      (ascending-filter (λ (q r : Ready). pos q.approval <ℤ pos r.approval) (λ (r : Ready). needs_among b.needs needed r.change) (ready_list b) (in_order_rises approval_of (ready_rows b.changes)))
       (answers s needing_sql needing_query ready_names (params_of needed) rows needing_is shown.schema_is finds)
 
 -- they are in form
 pub needing_in_form : (b : Stored) (needed : ℕ) → IsWhole b → AllPass is_ready_in_form (needing_list b needed)
-needing_in_form b needed whole = All-filter (λ (r : Ready). needs_it b.needs needed r.change) (λ r. is_ready_in_form r ≡ true) (ready_list b) (ready_in_form b whole)
+needing_in_form b needed whole = All-filter (λ (r : Ready). needs_among b.needs needed r.change) (λ r. is_ready_in_form r ≡ true) (ready_list b) (ready_in_form b whole)
 
 -- and those are all
 pub list_is_needing : (b : Stored) (needed : ℕ) → IsWhole b → AreReadyNeeding b needed (needing_list b needed)

@@ -36,9 +36,9 @@ use Rattle.gate_schema.specs.Rows.{Stored, change_table_row}
 use Rattle.gate_schema.proofs.QueryLemmas.{kept_is, over_table, passes}
 use Rattle.gate_schema.proofs.Statements.{Asks, no_limit}
 use Rattle.gate_schema.proofs.ValueLemmas.{above_number}
-use Rattle.gate_found_rows.specs.Asked.{AreReady, ready_row, ready_rows}
+use Rattle.gate_found_rows.specs.Asked.{AreReadyByApproval, ready_row, ready_rows}
 use Rattle.gate_found_rows.specs.Finds.{Finds}
-use Rattle.gate_found_rows.specs.Reads.{IsShown}
+use Rattle.gate_found_rows.specs.Reads.{IsStoredIn}
 use Rattle.gate_found_rows.specs.Shown.{ready_shown}
 use Rattle.gate_found_rows.specs.Whole.{IsWhole, is_change_row_in_form}
 use Rattle.gate_found_rows.proofs.KeyedReads.{rises}
@@ -118,7 +118,7 @@ abbrev pub ready_list : Stored → List Ready
 ready_list b = in_order approval_of (ready_rows b.changes)
 
 -- the read shows the list
-pub ready_found : (s : State) (b : Stored) (rows : List Row) → IsShown s b → IsWhole b → Finds ready_sql [] s.now rows → rows ≡ map ready_shown (ready_list b)
+pub ready_found : (s : State) (b : Stored) (rows : List Row) → IsStoredIn s b → IsWhole b → Finds ready_sql [] s.now rows → rows ≡ map ready_shown (ready_list b)
 ready_found s b rows shown whole finds =
     let q = ready_query in
     let a = answers s ready_sql ready_query ready_names [] rows ready_is shown.schema_is finds in
@@ -140,7 +140,7 @@ ready_in_form b whole =
     (All-from_recursion (λ r. is_ready_in_form r ≡ true) (ready_rows b.changes) (all_in_form b.changes (recursion_from_All (λ r. is_change_row_in_form r ≡ true) b.changes whole.changes)))
 
 -- it has all that are ready, by rising approval
-pub list_is_ready : (b : Stored) → IsWhole b → AreReady b (ready_list b)
+pub list_is_ready : (b : Stored) → IsWhole b → AreReadyByApproval b (ready_list b)
 list_is_ready b whole = record {
   are = IsPermutation-sym _ _ (in_order_same approval_of (ready_rows b.changes) whole.approvals_differ);
   rise = rises_pairwise approval_of (ready_list b) (in_order_rises approval_of (ready_rows b.changes));

@@ -4,7 +4,7 @@ ghost use Rattle.std.specs.List.{AllPass};
 ghost use Rattle.sqlite.specs.Held.{state};
 ghost use Rattle.gate_types.specs.Forms.{is_ready_in_form};
 ghost use Rattle.gate_book_trait.specs.Reads.{Answers};
-ghost use Rattle.gate_found_rows.specs.Asked.{AreReady, AreReadyNeeding};
+ghost use Rattle.gate_found_rows.specs.Asked.{AreReadyByApproval, AreReadyNeeding};
 ghost use Rattle.gate_found_rows.specs.Reads.{IsOnlyRead, Opened, Reads};
 ghost use Rattle.gate_found_rows.specs.Shown.{ready_shown};
 
@@ -44,7 +44,8 @@ fn all_ready(alloc: Global, rows: &[Row]) -> Result<Sequence<Ready>, BookFault>
 ///
 /// `NoMemory` where memory is refused, `Store` where the query fails, `Damaged` where a row isn't in form.
 pub fn ready<S: Alter>(conn: &mut Connection<S>) -> Result<Sequence<Ready>, BookFault>
-    ensures found { Reads (state S.Store conn.old) (state S.Store conn.new) result (λ b found. AreReady b found) }
+    ensures found { Reads (state S.Store conn.old) (state S.Store conn.new) result
+        (λ b found. AreReadyByApproval b found) }
     ensures opened { Opened (state S.Store conn.old) (state S.Store conn.new) result }
     ensures only_reads { IsOnlyRead (state S.Store conn.old) (state S.Store conn.new) }
 {

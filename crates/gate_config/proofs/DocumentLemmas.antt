@@ -8,7 +8,7 @@ use Rattle.std.specs.Map.{keys_of}
 use Rattle.toml.specs.Data.{Data}
 use Rattle.toml.specs.View.{view, items_of, members_view}
 use Rattle.toml.specs.declared.value.Value.{Value}
-use Rattle.gate_config.specs.Document.{list_of, name_of}
+use Rattle.gate_config.specs.Document.{values_in, name_of}
 use Rattle.gate_types.specs.Names.{same_name}
 use Rattle.gate_types.proofs.PlainLemmas.{list_any_map}
 use Rattle.gate_config.specs.Rules.{has_double}
@@ -60,7 +60,7 @@ double_later name v vs e h =
     rw (← e, list_any_map (same_name name) name_of (map view vs), list_any_map (λ d. same_name name (name_of d)) view vs, h) refl
 
 -- the values of an array are those that it was made of
-pub list_of_view : (ds : List Data) → list_of (items_of ds) ≡ ds
+pub list_of_view : (ds : List Data) → values_in (items_of ds) ≡ ds
 list_of_view [] = refl
 list_of_view (d ∷ ds) = ap (λ l. d ∷ l) (list_of_view ds)
 

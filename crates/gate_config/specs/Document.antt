@@ -12,13 +12,13 @@ use Rattle.gate_types.specs.declared.config.Queue.{Queue}
 use Rattle.gate_types.specs.declared.config.Project.{Project}
 
 -- the values of an array
-abbrev pub list_of : Items → List Data
-list_of no_items = []
-list_of (item d ds) = d ∷ list_of ds
+abbrev pub values_in : Items → List Data
+values_in no_items = []
+values_in (item d ds) = d ∷ values_in ds
 
 -- the values of the array at a key, or none
 abbrev pub items_at : List ℕ → Data → List Data
-items_at key d = option_map_or list_of (option_and_then as_array (get key d)) []
+items_at key d = option_map_or values_in (option_and_then as_array (get key d)) []
 
 -- the queues and projects of a document, and the jobs of a project
 abbrev pub queues_of : Data → List Data
@@ -52,33 +52,33 @@ natural (pos n) = Some n
 natural (negsuc n) = None
 
 -- the whole number at a key, or the default where it is left out
-abbrev pub number_at : List ℕ → ℕ → Data → Option ℕ
-number_at key default d = option_map_or natural (option_and_then as_integer (get key d)) (Some default)
+abbrev pub number_or_default : List ℕ → ℕ → Data → Option ℕ
+number_or_default key default d = option_map_or natural (option_and_then as_integer (get key d)) (Some default)
 
 -- the window and the floor of a queue
 abbrev pub said_window : Data → Option ℕ
-said_window q = number_at (codes "window") 20 q
+said_window q = number_or_default (codes "window") 20 q
 
 abbrev pub said_floor : Data → Option ℕ
-said_floor q = number_at (codes "floor") 3 q
+said_floor q = number_or_default (codes "floor") 3 q
 
 -- the pace at a key, or the default where it is left out
-abbrev pub pace_at : List ℕ → Pace → Data → Option Pace
-pace_at key default d = option_map_or pace_named (option_and_then as_str (get key d)) (Some default)
+abbrev pub pace_or_default : List ℕ → Pace → Data → Option Pace
+pace_or_default key default d = option_map_or pace_named (option_and_then as_str (get key d)) (Some default)
 
 -- how the window of a queue grows, and by what
 abbrev pub said_increase : Data → Option Pace
-said_increase q = pace_at (codes "increase") pace.Linear q
+said_increase q = pace_or_default (codes "increase") pace.Linear q
 
 abbrev pub said_increase_by : Data → Option ℕ
-said_increase_by q = number_at (codes "increase_by") 1 q
+said_increase_by q = number_or_default (codes "increase_by") 1 q
 
 -- how it shrinks, and by what
 abbrev pub said_decrease : Data → Option Pace
-said_decrease q = pace_at (codes "decrease") pace.Exponential q
+said_decrease q = pace_or_default (codes "decrease") pace.Exponential q
 
 abbrev pub said_decrease_by : Data → Option ℕ
-said_decrease_by q = number_at (codes "decrease_by") 2 q
+said_decrease_by q = number_or_default (codes "decrease_by") 2 q
 
 -- the rule of a queue
 abbrev pub said_rule : Data → WindowRule

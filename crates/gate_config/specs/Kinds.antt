@@ -3,7 +3,7 @@ use Rattle.std.specs.Prelude.{ℕ, List, codes, Bool, false, ◌||◌, not, is_s
 use Rattle.std.specs.List.{list_any, list_all}
 use Rattle.std.specs.Option.{option_map_or}
 use Rattle.toml.specs.Data.{Data, get, as_str, as_integer, as_bool, as_array, as_table}
-use Rattle.gate_config.specs.Document.{list_of, queues_of, projects_of, jobs_of}
+use Rattle.gate_config.specs.Document.{values_in, queues_of, projects_of, jobs_of}
 use Rattle.gate_config.specs.declared.kinds.ValueKind.{ValueKind}
 use Rattle.gate_config.specs.declared.kinds.ValueKind.TheVariants as kind
 
@@ -11,16 +11,16 @@ abbrev pub is_table : Data → Bool
 is_table d = is_some (as_table d)
 
 -- whether a value is of a kind; an empty array is one of tables
-abbrev pub is_of : ValueKind → Data → Bool
-is_of kind.Table d = is_table d
-is_of kind.Tables d = option_map_or (λ ds. list_all is_table (list_of ds)) (as_array d) false
-is_of kind.Text d = is_some (as_str d)
-is_of kind.WholeNumber d = is_some (as_integer d)
-is_of kind.TruthValue d = is_some (as_bool d)
+abbrev pub is_of_kind : ValueKind → Data → Bool
+is_of_kind kind.Table d = is_table d
+is_of_kind kind.Tables d = option_map_or (λ ds. list_all is_table (values_in ds)) (as_array d) false
+is_of_kind kind.Text d = is_some (as_str d)
+is_of_kind kind.WholeNumber d = is_some (as_integer d)
+is_of_kind kind.TruthValue d = is_some (as_bool d)
 
 -- a member that is there and of another kind
 abbrev pub is_wrong : ValueKind → List ℕ → Data → Bool
-is_wrong k key d = option_map_or (λ m. not (is_of k m)) (get key d) false
+is_wrong k key d = option_map_or (λ m. not (is_of_kind k m)) (get key d) false
 
 abbrev pub is_wrong_queue : Data → Bool
 is_wrong_queue q =

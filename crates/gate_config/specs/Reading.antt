@@ -28,6 +28,6 @@ abbrev pub said_by : List ℕ → Result Settings ConfigFault
 said_by bytes = read_from (document bytes)
 
 -- a call's answer is just what the bytes say, unless memory was refused
-abbrev pub Gives : Result Settings ConfigFault → Result Settings ConfigFault → Type 0
-Gives (Err fault.NoMemory) said = ⊤
-Gives answer said = said ≡ answer
+abbrev pub GivesSettings : Result Settings ConfigFault → Result Settings ConfigFault → Type 0
+GivesSettings (Err fault.NoMemory) said = ⊤
+GivesSettings answer said = said ≡ answer

@@ -3,7 +3,8 @@ ghost use Rattle.std.specs.Prelude.{◌≡◌, map};
 ghost use Rattle.toml.specs.View.{view};
 ghost use Rattle.gate_types.specs.Names.{same_name};
 ghost use Rattle.gate_config.specs.Document.{items_at, queues_of, projects_of, jobs_of, text_or_empty, name_of};
-ghost use Rattle.gate_config.specs.Document.{queue_named_by, base_of, number_at, said_window, said_floor, pace_at};
+ghost use Rattle.gate_config.specs.Document.{queue_named_by, base_of, number_or_default, said_window, said_floor};
+ghost use Rattle.gate_config.specs.Document.{pace_or_default};
 ghost use Rattle.gate_config.specs.Document.{said_increase, said_increase_by, said_decrease, said_decrease_by, is_fast};
 ghost use Rattle.gate_config.specs.Document.{is_voting};
 
@@ -78,7 +79,7 @@ pub(crate) fn base_of(document: &Value) -> &str
 
 /// The whole number at a key, or the default where it is left out. None where it is negative.
 fn number_at(value: &Value, key: &str, default: u64) -> Option<u64>
-    ensures { result ≡ number_at key.now default (view value.now) }
+    ensures { result ≡ number_or_default key.now default (view value.now) }
 {
     match value.get(key) {
         Some(member) => match member.as_integer() {
@@ -116,7 +117,7 @@ pub(crate) fn is_same(text: &str, other: &str) -> bool
 
 /// The pace at a key, or the default where it is left out. None where the word says none.
 fn pace_at(value: &Value, key: &str, default: Pace) -> Option<Pace>
-    ensures { result ≡ pace_at key.now default (view value.now) }
+    ensures { result ≡ pace_or_default key.now default (view value.now) }
 {
     match value.get(key) {
         Some(member) => match member.as_str() {

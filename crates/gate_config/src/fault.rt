@@ -1,6 +1,6 @@
 //! Why a settings file is refused.
 ghost use Rattle.std.specs.Prelude.{◌≡◌};
-ghost use Rattle.gate_config.specs.Words.{number_of, word_of, config_fault_text};
+ghost use Rattle.gate_config.specs.Words.{fault_number, word_of, config_fault_text};
 
 use std::alloc::AllocError;
 use std::fmt;
@@ -35,7 +35,7 @@ pub enum ConfigFault {
 impl ConfigFault {
     /// The number of the fault, 1 to 11.
     pub fn number(self) -> u8
-        ensures { result ≡ number_of self }
+        ensures { result ≡ fault_number self }
     {
         match self {
             ConfigFault::NotToml => 1,

@@ -4,7 +4,8 @@ ghost use Rattle.std.specs.Option.{option_map_or};
 ghost use Rattle.toml.specs.Data.{get};
 ghost use Rattle.std.specs.List.{list_any, list_all};
 ghost use Rattle.toml.specs.View.{view};
-ghost use Rattle.gate_config.specs.Kinds.{is_table, is_of, is_wrong, is_wrong_queue, is_wrong_job, is_wrong_project};
+ghost use Rattle.gate_config.specs.Kinds.{is_table, is_of_kind, is_wrong, is_wrong_queue, is_wrong_job};
+ghost use Rattle.gate_config.specs.Kinds.{is_wrong_project};
 ghost use Rattle.gate_config.specs.Kinds.{has_wrong_kind};
 
 use crate::document::{jobs_of, projects_of, queues_of};
@@ -29,7 +30,7 @@ fn are_tables(values: &[Value]) -> bool
 
 #[tactic(auto, using(crate::proofs::DocumentLemmas::list_of_view, crate::proofs::DocumentLemmas::list_all_map))]
 fn is_array_of_tables(value: &Value) -> bool
-    ensures { result ≡ is_of ValueKind.Tables (view value.now) }
+    ensures { result ≡ is_of_kind ValueKind.Tables (view value.now) }
 {
     match value.as_array() {
         Some(list) => are_tables(list.as_slice()),
@@ -38,7 +39,7 @@ fn is_array_of_tables(value: &Value) -> bool
 }
 
 fn is_of(kind: ValueKind, value: &Value) -> bool
-    ensures { result ≡ is_of kind (view value.now) }
+    ensures { result ≡ is_of_kind kind (view value.now) }
 {
     match kind {
         ValueKind::Table => value.is_table(),

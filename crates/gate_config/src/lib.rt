@@ -10,7 +10,7 @@
 ghost use Rattle.std.specs.Prelude.{◌≡◌, ◌⊎◌, Some, None, IfOk, IfErr};
 ghost use Rattle.toml.specs.View.{view};
 ghost use Rattle.gate_config.specs.Faults.{broken_rule, fault_of};
-ghost use Rattle.gate_config.specs.Reading.{document, said_by, Gives};
+ghost use Rattle.gate_config.specs.Reading.{document, said_by, GivesSettings};
 
 mod build;
 mod document;
@@ -30,7 +30,7 @@ use toml::Value;
 ///
 /// The fault with the least number, if the file has any; and `NoMemory` where memory was refused, whatever the file is.
 pub fn read(alloc: Global, bytes: &[u8]) -> Result<Config, ConfigFault>
-    ensures { Gives result (said_by bytes.now) }
+    ensures { GivesSettings result (said_by bytes.now) }
 {
     let document = parse(alloc, bytes)?;
     match fault_in(&document) {

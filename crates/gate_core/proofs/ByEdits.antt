@@ -49,7 +49,7 @@ use Rattle.gate_laws.proofs.Members.{contains_in}
 use Rattle.gate_reads.specs.Moves.{swept}
 use Rattle.gate_admission.specs.Led.{IsLed}
 use Rattle.gate_admission.specs.Seen.{change_put, staged}
-use Rattle.gate_admission.specs.Candidates.{is_landing, needs_it, puts, is_full, makes_room, lets_in, EntersByEdits}
+use Rattle.gate_admission.specs.Candidates.{is_landing, needs_it, puts_or_sets, is_full, makes_room, lets_in, EntersByEdits}
 use Rattle.gate_admission.proofs.Led.{put_led}
 use Rattle.gate_admission.proofs.LetIn.{are_putting, was_ready, change_stays}
 use Rattle.gate_settling.proofs.ListLemmas.{each_same}
@@ -335,7 +335,7 @@ landed_by_edit m o (d ∷ ds) h = ⊎_elim
     (landed_by_edit m (change_put m o d) ds h)
 
 -- whom an edit puts it lets in
-put_lets_in : (v : State) (r : Ready) (e : Edit) → puts r.change e ≡ true → lets_in v r e ≡ true
+put_lets_in : (v : State) (r : Ready) (e : Edit) → puts_or_sets r.change e ≡ true → lets_in v r e ≡ true
 put_lets_in v r (edit.PutChange k a) h = ap (λ b. b || is_landed k && needs_it v k.number r) h
 put_lets_in v r (edit.SetStage n g) h = ap (λ b. b || is_landing g && needs_it v n r) h
 put_lets_in v r (edit.PutItem q i) h = absurd (true≢false (sym h))
@@ -412,7 +412,7 @@ module _ (c : Settings) (x : Content) (edits : List Edit) (v : State) (sound : I
       by_test : (b : Bool) → are_putting y.change edits ≡ b → b ≡ false
       by_test false e = refl
       by_test true e =
-          let one = any_from (puts y.change) edits e in
+          let one = any_from (puts_or_sets y.change) edits e in
           absurd (true≢false (sym (put_lets_in v y one.0 one.2) ∙ (neither one.0 one.1).1))
 
   same_change : change_of v y.change ≡ change_of x.state y.change

@@ -6,7 +6,7 @@ use Rattle.gate_types.specs.Status.{status_text}
 use Rattle.gate_types.specs.Settings.{Settings}
 use Rattle.gate_types.specs.Once.{Content, empty}
 use Rattle.gate_types.specs.Forms.{IsLawfulContent}
-use Rattle.gate_types.specs.Gated.{Gated, opened}
+use Rattle.gate_types.specs.Gated.{Gated, new_gate}
 use Rattle.gate_core.specs.declared.gate.Gate.{Gate}
 use Rattle.gate_core.specs.declared.recent.Recent.{Recent}
 use Rattle.gate_core.specs.Held.{Goes, IsOver}
@@ -35,13 +35,13 @@ module _ {B : Type 0} (trusted : B → Type 0) (holds : B → Settings → Conte
   -- a gate that was just made is the plain gate before its first delivery
   pub goes_anew : (old new : Gate B) (P : Gated → Gated → Type 0) → Goes trusted holds old new P →
       IsLawfulContent (settings_of old) (empty (settings_of old)) → IsNew holds old → trusted (book_of new) →
-      (after : Gated) × P (opened (settings_of old)) after × holds (book_of new) (settings_of old) after.content
+      (after : Gated) × P (new_gate (settings_of old)) after × holds (book_of new) (settings_of old) after.content
   goes_anew old new P goes lawful fresh t =
       let c = settings_of old in
-      let over : IsOver holds old (opened c) = record {
+      let over : IsOver holds old (new_gate c) = record {
         settings = refl;
         held = record { book = fresh.book; recent = λ _. nothing_is_true (recent_of old) c (empty c) fresh.recent };
         lawful = lawful;
       } in
-      let went = goes.passes t (opened c) over in
+      let went = goes.passes t (new_gate c) over in
       (went.0, went.2, subst (λ k. holds (book_of new) k went.0.content) goes.settings went.1.held.book)

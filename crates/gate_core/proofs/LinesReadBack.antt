@@ -28,7 +28,7 @@ use Rattle.gate_types.specs.OneText.{IsInRange}
 use Rattle.gate_laws.proofs.LogIsTheGate.{forms_are_in_range}
 use Rattle.gate_wire.specs.declared.door.Door.TheVariants as door
 use Rattle.gate_wire.specs.Reading.{says, read_or_bad, data_says, id_at, kind_at, delivery_at, revision_said}
-use Rattle.gate_wire.specs.Reading.{change_at, revision_at, order_at, build_at, project_at, worker_at, message_at}
+use Rattle.gate_wire.specs.Reading.{change_at, revision_at, order_at, build_at, project_name_at, worker_at, message_at}
 use Rattle.gate_wire.specs.Reading.{ending_at, at_revision, whole_up_to, text_of_form, or_bad, ◌>>=◌}
 use Rattle.gate_archive.specs.Feed.{with_id}
 use Rattle.gate_archive.proofs.LineLaw.{a_line_is_its_delivery_under_its_id}
@@ -181,7 +181,7 @@ unfolding order_at
 order_said digits word n h = number_said last_number n (codes "order") (order_data digits word n) refl h
 
 delivery_said : (digits : List ℕ) (d : Delivery) → InForm d → said_by digits d ≡ Ok d
-unfolding change_at revision_at project_at message_at worker_at build_at
+unfolding change_at revision_at project_name_at message_at worker_at build_at
 delivery_said digits (delivery.Revision n name r message) (hn, named, hr, short, _) =
     let v = data_of digits (delivery.Revision n name r message) in
     rw (

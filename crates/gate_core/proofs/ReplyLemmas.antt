@@ -23,7 +23,7 @@ use Rattle.gate_core.specs.Limit.{too_large}
 use Rattle.gate_types.specs.Limits.{most_bytes}
 use Rattle.gate_wire.specs.declared.door.Door.TheVariants as door
 use Rattle.gate_wire.specs.Reading.{says}
-use Rattle.gate_core.specs.Runs.{Answers, Runs, Broke}
+use Rattle.gate_core.specs.Runs.{AnswersLine, Runs, BrokeInWriting}
 use Rattle.gate_core.specs.Replies.{CallsAreAnswered, call_replies, Marked, is_too_long, call_read, call_of}
 use Rattle.gate_core.specs.Replies.{calls_of_lines, gate_after_lines, text_read, reply_to, replies}
 use Rattle.gate_core.specs.Left.{LeavesBy}
@@ -165,7 +165,7 @@ goes_told trusted holds leaves old new line id d a text settings before short sa
 -- a line that the engine answers, too long or not
 answers_told : {B : Type 0} (trusted : B → Type 0) (holds : B → Settings → Content → Type 0)
     (leaves : B → Settings → List Content → Type 0) (old : Gate B) (line text : List ℕ) (new : Gate B) →
-    Answers (TellsLine trusted holds leaves) old line text new → TellsLine trusted holds leaves old line text new
+    AnswersLine (TellsLine trusted holds leaves) old line text new → TellsLine trusted holds leaves old line text new
 answers_told trusted holds leaves old line text new (inl (short, h)) = h
 answers_told trusted holds leaves old line text new (inr (over, said, stays)) =
     goes_nowhere trusted holds old new (ToldOver leaves old new line text) stays
@@ -236,7 +236,7 @@ cut_behind leaves old between new g mid after lines front line more text said at
 -- what the engine broke off is cut
 pub cut_of_broke : {B : Type 0} (trusted : B → Type 0) (holds : B → Settings → Content → Type 0)
     (leaves : B → Settings → List Content → Type 0) (old new : Gate B) (lines : List (List ℕ)) (w v : Option (List ℕ))
-    (b : Broke (TellsLine trusted holds leaves) old lines new w v) → Goes trusted holds old new
+    (b : BrokeInWriting (TellsLine trusted holds leaves) old lines new w v) → Goes trusted holds old new
     (CutOver leaves old new lines (b.text ++ take b.at (b.said ++ 10 ∷ [])) (length b.done))
 cut_of_broke trusted holds leaves old new lines w v b =
     goes_on trusted holds old b.mid new (ReplayedOver leaves old b.mid b.done b.text)

@@ -8,13 +8,13 @@ use Rattle.std.proofs.KnownBytes.{Appends-trans, Appends-nil, Consumes-trans, Co
 use Rattle.std.proofs.Math.Seq.{drop-cons}
 use Rattle.std.proofs.lemmas.List.{length-take}
 use Rattle.gate_types.specs.Tap.{WritesFront}
-use Rattle.gate_core.specs.Line.{Holds}
+use Rattle.gate_core.specs.Line.{HoldsLine}
 use Rattle.gate_core.specs.declared.line.Line.{Line}
 use Rattle.gate_core.specs.Gathered.{whole_from, rest_from}
 use Rattle.gate_core.specs.Limit.{longest_read}
 use Rattle.gate_core.specs.Lines.{whole_lines, lines_of, ReadFor}
 use Rattle.gate_core.proofs.LineLemmas.{whole_gathered, lines_gathered, if_some, if_some_some}
-use Rattle.gate_core.specs.Runs.{Replying, Answers, Runs, Fed, Broke}
+use Rattle.gate_core.specs.Runs.{Replying, AnswersLine, Runs, Fed, BrokeInWriting}
 
 pub runs_append : {S : Type 0} (replies : Replying S) (s : S) (a b : List (List ℕ)) (t u : List ℕ) (m e : S) → Runs replies s a t m → Runs replies m b u e → Runs replies s (a ++ b) (t ++ u) e
 runs_append replies s [] b t u m e (et, em) h = subst (λ x. Runs replies x b (t ++ u) e) em (subst (λ x. Runs replies m b (x ++ u) e) (sym et) h)
@@ -31,14 +31,14 @@ fed_append replies s m e a b o p q f h = record {
   written = Appends-trans o p q f.text h.text f.written h.written;
 }
 
-pub fed_one : {S : Type 0} (replies : Replying S) (s e : S) (line said : List ℕ) (o p : Option (List ℕ)) → Answers replies s line said e → Appends o p (said ++ 10 ∷ []) → Fed replies s (line ∷ []) e o p
+pub fed_one : {S : Type 0} (replies : Replying S) (s e : S) (line said : List ℕ) (o p : Option (List ℕ)) → AnswersLine replies s line said e → Appends o p (said ++ 10 ∷ []) → Fed replies s (line ∷ []) e o p
 fed_one replies s e line said o p ans w = record {
   text = (said ++ 10 ∷ []) ++ [];
   ran = (said, [], e, ans, refl, (refl, refl));
   written = subst (Appends o p) (sym (append-nil (said ++ 10 ∷ []))) w;
 }
 
-pub broke_after : {S : Type 0} (replies : Replying S) (s m e : S) (a b : List (List ℕ)) (o p q : Option (List ℕ)) → Fed replies s a m o p → Broke replies m b e p q → Broke replies s (a ++ b) e o q
+pub broke_after : {S : Type 0} (replies : Replying S) (s m e : S) (a b : List (List ℕ)) (o p q : Option (List ℕ)) → Fed replies s a m o p → BrokeInWriting replies m b e p q → BrokeInWriting replies s (a ++ b) e o q
 broke_after replies s m e a b o p q f h = record {
   done = a ++ h.done;
   line = h.line;
@@ -54,7 +54,7 @@ broke_after replies s m e a b o p q f h = record {
   written = subst (Appends o q) (sym (append_assoc f.text h.text (take h.at (h.said ++ 10 ∷ [])))) (Appends-trans o p q f.text (h.text ++ take h.at (h.said ++ 10 ∷ [])) f.written h.written);
 }
 
-pub broke_one : {S : Type 0} (replies : Replying S) (s e : S) (line said : List ℕ) (more : List (List ℕ)) (o p : Option (List ℕ)) → Answers replies s line said e → WritesFront o p (said ++ 10 ∷ []) → Broke replies s (line ∷ more) e o p
+pub broke_one : {S : Type 0} (replies : Replying S) (s e : S) (line said : List ℕ) (more : List (List ℕ)) (o p : Option (List ℕ)) → AnswersLine replies s line said e → WritesFront o p (said ++ 10 ∷ []) → BrokeInWriting replies s (line ∷ more) e o p
 broke_one replies s e line said more o p ans (n, short, w) = record {
   done = [];
   line = line;
@@ -92,12 +92,12 @@ pub record SoFar {S : Type 0} (replies : Replying S) (s : S) (begun bytes left :
   pub now : List ℕ
   pub whole : whole_from begun bytes ≡ done ++ whole_from now left
   pub rest : rest_from begun bytes ≡ rest_from now left
-  pub holds : Holds line now
+  pub holds : HoldsLine line now
   pub fed : Fed replies s done after old new
   pub counted : count ≡ u64_saturate (first + length done)
 
 pub so_far_byte : {S : Type 0} (replies : Replying S) (s : S) (begun bytes : List ℕ) (b : ℕ) (left : List ℕ) (after : S) (old new : Option (List ℕ)) (line next : Line) (first count : ℕ)
-    → nat_eq b 10 ≡ false → ((now : List ℕ) → Holds line now → Holds next (now ++ b ∷ []))
+    → nat_eq b 10 ≡ false → ((now : List ℕ) → HoldsLine line now → HoldsLine next (now ++ b ∷ []))
     → SoFar replies s begun bytes (b ∷ left) after old new line first count → SoFar replies s begun bytes left after old new next first count
 so_far_byte replies s begun bytes b left after old new line next first count other push h = record {
   done = h.done;
@@ -110,7 +110,7 @@ so_far_byte replies s begun bytes b left after old new line next first count oth
 }
 
 pub so_far_line : {S : Type 0} (replies : Replying S) (s : S) (begun bytes : List ℕ) (b : ℕ) (left : List ℕ) (after last : S) (old new end : Option (List ℕ)) (line next : Line) (first count : ℕ)
-    → nat_eq b 10 ≡ true → ((now : List ℕ) → Holds line now → (said : List ℕ) × Answers replies after now said last × Appends new end (said ++ 10 ∷ [])) → Holds next []
+    → nat_eq b 10 ≡ true → ((now : List ℕ) → HoldsLine line now → (said : List ℕ) × AnswersLine replies after now said last × Appends new end (said ++ 10 ∷ [])) → HoldsLine next []
     → SoFar replies s begun bytes (b ∷ left) after old new line first count → SoFar replies s begun bytes left last old end next first (u64_saturate (count + 1))
 so_far_line replies s begun bytes b left after last old new end line next first count lf says empty h =
     let said = says h.now h.holds in record {
@@ -124,11 +124,11 @@ so_far_line replies s begun bytes b left after last old new end line next first 
     }
 
 pub so_far_broke : {S : Type 0} (replies : Replying S) (s : S) (begun bytes : List ℕ) (b : ℕ) (left : List ℕ) (after last : S) (old new end : Option (List ℕ)) (line : Line) (first count : ℕ)
-    → nat_eq b 10 ≡ true → ((now : List ℕ) → Holds line now → (said : List ℕ) × Answers replies after now said last × WritesFront new end (said ++ 10 ∷ []))
-    → SoFar replies s begun bytes (b ∷ left) after old new line first count → Broke replies s (whole_from begun bytes) last old end
+    → nat_eq b 10 ≡ true → ((now : List ℕ) → HoldsLine line now → (said : List ℕ) × AnswersLine replies after now said last × WritesFront new end (said ++ 10 ∷ []))
+    → SoFar replies s begun bytes (b ∷ left) after old new line first count → BrokeInWriting replies s (whole_from begun bytes) last old end
 so_far_broke replies s begun bytes b left after last old new end line first count lf says h =
     let said = says h.now h.holds in
-    subst (λ l. Broke replies s l last old end) (sym (h.whole ∙ ap (λ t. h.done ++ cond t (h.now ∷ whole_from [] left) (whole_from (h.now ++ b ∷ []) left)) lf))
+    subst (λ l. BrokeInWriting replies s l last old end) (sym (h.whole ∙ ap (λ t. h.done ++ cond t (h.now ∷ whole_from [] left) (whole_from (h.now ++ b ∷ []) left)) lf))
     (broke_after replies s after last h.done (h.now ∷ whole_from [] left) old new end h.fed (broke_one replies after last h.now said.0 (whole_from [] left) new end said.1 said.2))
 
 pub drop_next : (l : List ℕ) (i : ℕ) → i < length l → drop i l ≡ get_or l i 0 ∷ drop (i + 1) l
@@ -139,13 +139,13 @@ pub record Between {S : Type 0} (replies : Replying S) (s : S) (left now : Optio
   pub front : List ℕ
   pub consumed : Consumes left now front
   pub fed : Fed replies s (whole_from [] front) after old new
-  pub holds : Holds line (rest_from [] front)
+  pub holds : HoldsLine line (rest_from [] front)
   pub counted : count ≡ u64_saturate (length (whole_from [] front))
 
 -- what feeding a chunk says
 abbrev pub Feeds : {S : Type 0} → Replying S → S → List ℕ → S → Option (List ℕ) → Option (List ℕ) → Line → Line → ℕ → ℕ → Type 0
-Feeds replies s chunk after old new line next count n = (begun : List ℕ) → Holds line begun →
-    Fed replies s (whole_from begun chunk) after old new × Holds next (rest_from begun chunk) × (n ≡ u64_saturate (count + length (whole_from begun chunk)))
+Feeds replies s chunk after old new line next count n = (begun : List ℕ) → HoldsLine line begun →
+    Fed replies s (whole_from begun chunk) after old new × HoldsLine next (rest_from begun chunk) × (n ≡ u64_saturate (count + length (whole_from begun chunk)))
 
 pub between_fed : {S : Type 0} {replies : Replying S} {s m e : S} {a b d o p q : Option (List ℕ)} {line next : Line} {count n : ℕ} (chunk : List ℕ)
     → Between replies s a b m o p line count → Consumes b d chunk → Feeds replies m chunk e p q line next count n → Between replies s a d e o q next n
@@ -155,7 +155,7 @@ between_fed {replies = replies} {s = s} {m = m} {e = e} {a = a} {b = b} {d = d} 
       front = h.front ++ chunk;
       consumed = Consumes-trans a b d h.front chunk h.consumed took;
       fed = subst (λ l. Fed replies s l e o q) (sym whole) (fed_append replies s m e (whole_from [] h.front) (whole_from (rest_from [] h.front) chunk) o p q h.fed f.0);
-      holds = subst (Holds next) (sym (rest-append [] h.front chunk)) f.1;
+      holds = subst (HoldsLine next) (sym (rest-append [] h.front chunk)) f.1;
       counted = omega (arith, h.counted, f.2, ap length whole, length-append (whole_from [] h.front) (whole_from (rest_from [] h.front) chunk));
     }
 
@@ -166,7 +166,7 @@ every_line_is front some =
 
 -- what a cut answer leaves behind: the lines up to it ran, and no more was read than it took
 abbrev pub Stops : {S : Type 0} → Replying S → S → Option (List ℕ) → Option (List ℕ) → S → Option (List ℕ) → Option (List ℕ) → Type 0
-Stops replies s a d e o q = (lines : List (List ℕ)) × (broke : Broke replies s lines e o q) × ReadFor a d lines (length broke.done)
+Stops replies s a d e o q = (lines : List (List ℕ)) × (broke : BrokeInWriting replies s lines e o q) × ReadFor a d lines (length broke.done)
 
 -- what is read into a buffer is no longer than it
 pub one_read : (n : ℕ) (buf : List ℕ) → length buf ≡ longest_read → length (take n buf) ≤ longest_read
@@ -174,7 +174,7 @@ one_read n buf size = omega (arith, length-take n buf)
 
 pub between_broke : {S : Type 0} {replies : Replying S} {s m e : S} {a b d o p q : Option (List ℕ)} {line : Line} {count : ℕ} (chunk : List ℕ)
     → Between replies s a b m o p line count → Consumes b d chunk → length chunk ≤ longest_read
-    → ((begun : List ℕ) → Holds line begun → Broke replies m (whole_from begun chunk) e p q) → Stops replies s a d e o q
+    → ((begun : List ℕ) → HoldsLine line begun → BrokeInWriting replies m (whole_from begun chunk) e p q) → Stops replies s a d e o q
 unfolding broke_after
 between_broke {replies = replies} {s = s} {m = m} {e = e} {a = a} {b = b} {d = d} {o = o} {p = p} {q = q} chunk h took short broke =
     let rest = rest_from [] h.front in
@@ -194,8 +194,8 @@ between_broke {replies = replies} {s = s} {m = m} {e = e} {a = a} {b = b} {d = d
 
 -- at the end, where something is left
 pub last_broke : {S : Type 0} {replies : Replying S} {s m e : S} {a b d o p q : Option (List ℕ)} {line : Line} {count : ℕ}
-    → Between replies s a b m o p line count → Consumes b d [] → IsAtEnd d → ((begun : List ℕ) → Holds line begun → begun ≡ [] → ⊥)
-    → ((begun : List ℕ) → Holds line begun → (said : List ℕ) × Answers replies m begun said e × WritesFront p q (said ++ 10 ∷ []))
+    → Between replies s a b m o p line count → Consumes b d [] → IsAtEnd d → ((begun : List ℕ) → HoldsLine line begun → begun ≡ [] → ⊥)
+    → ((begun : List ℕ) → HoldsLine line begun → (said : List ℕ) × AnswersLine replies m begun said e × WritesFront p q (said ++ 10 ∷ []))
     → Stops replies s a d e o q
 unfolding broke_after broke_one
 last_broke {replies = replies} {s = s} {m = m} {e = e} {a = a} {b = b} {d = d} {o = o} {p = p} {q = q} h took end some says =
@@ -218,8 +218,8 @@ abbrev pub Done : {S : Type 0} → Replying S → S → Option (List ℕ) → Op
 Done replies s a d e o q n = (input : List ℕ) × Consumes a d input × IsAtEnd d × Fed replies s (lines_of input) e o q × (n ≡ u64_saturate (length (lines_of input)))
 
 pub last_done : {S : Type 0} {replies : Replying S} {s m e : S} {a b o p q : Option (List ℕ)} (d : Option (List ℕ)) {line : Line} {count : ℕ}
-    → Between replies s a b m o p line count → Consumes b d [] → IsAtEnd d → ((begun : List ℕ) → Holds line begun → begun ≡ [] → ⊥)
-    → ((begun : List ℕ) → Holds line begun → (said : List ℕ) × Answers replies m begun said e × Appends p q (said ++ 10 ∷ []))
+    → Between replies s a b m o p line count → Consumes b d [] → IsAtEnd d → ((begun : List ℕ) → HoldsLine line begun → begun ≡ [] → ⊥)
+    → ((begun : List ℕ) → HoldsLine line begun → (said : List ℕ) × AnswersLine replies m begun said e × Appends p q (said ++ 10 ∷ []))
     → Done replies s a d e o q (u64_saturate (count + 1))
 last_done {replies = replies} {s = s} {m = m} {e = e} {a = a} {b = b} {o = o} {p = p} {q = q} d h took end some says =
     let rest = rest_from [] h.front in
@@ -235,7 +235,7 @@ last_done {replies = replies} {s = s} {m = m} {e = e} {a = a} {b = b} {o = o} {p
     )
 
 pub none_done : {S : Type 0} {replies : Replying S} {s m : S} {a b o p : Option (List ℕ)} (d : Option (List ℕ)) {line : Line} {count : ℕ}
-    → Between replies s a b m o p line count → Consumes b d [] → IsAtEnd d → ((begun : List ℕ) → Holds line begun → begun ≡ [])
+    → Between replies s a b m o p line count → Consumes b d [] → IsAtEnd d → ((begun : List ℕ) → HoldsLine line begun → begun ≡ [])
     → Done replies s a d m o p count
 none_done {replies = replies} {s = s} {m = m} {a = a} {b = b} {o = o} {p = p} d h took end none =
     let rest = rest_from [] h.front in

@@ -45,7 +45,7 @@ use Rattle.gate_ruling.proofs.Put.{row_known}
 use Rattle.gate_admission.proofs.Rows.{find_put}
 use Rattle.gate_core.specs.Thinned.{draws, has_drawn, is_replaced, newly_ready, puts_back, puts_row, sets_stage}
 use Rattle.gate_core.specs.Thinned.{sets_window, thinned}
-use Rattle.gate_core.specs.Thinned.{with_drawn, AreNumbersOf, IsNotedOf}
+use Rattle.gate_core.specs.Thinned.{drawn_noted, AreNumbersOf, IsNotedOf}
 use Rattle.gate_core.specs.declared.thinned.Later.{Later}
 
 -- ---- edits that set the same
@@ -624,31 +624,31 @@ made_spare c x (pending.PlaceOf n) t es sound makes leads =
 -- ---- what is noted
 
 draw_noted : (k : Counter) (m : ℕ) (edits : List Edit) (s : Later) → IsNotedOf edits s →
-    IsNotedOf (edit.SetCounter k m ∷ edits) (with_drawn k s)
+    IsNotedOf (edit.SetCounter k m ∷ edits) (drawn_noted k s)
 draw_noted counter.Approval m edits s h = record { changes = h.changes; counters = by; windows = h.windows }
   where
-    by : (j : Counter) → has_drawn (with_drawn counter.Approval s) j
+    by : (j : Counter) → has_drawn (drawn_noted counter.Approval s) j
         ≡ list_any (draws j) (edit.SetCounter counter.Approval m ∷ edits)
     by counter.Approval = refl
     by counter.Build = h.counters counter.Build
     by counter.Order = h.counters counter.Order
 draw_noted counter.Build m edits s h = record { changes = h.changes; counters = by; windows = h.windows }
   where
-    by : (j : Counter) → has_drawn (with_drawn counter.Build s) j
+    by : (j : Counter) → has_drawn (drawn_noted counter.Build s) j
         ≡ list_any (draws j) (edit.SetCounter counter.Build m ∷ edits)
     by counter.Approval = h.counters counter.Approval
     by counter.Build = refl
     by counter.Order = h.counters counter.Order
 draw_noted counter.Order m edits s h = record { changes = h.changes; counters = by; windows = h.windows }
   where
-    by : (j : Counter) → has_drawn (with_drawn counter.Order s) j
+    by : (j : Counter) → has_drawn (drawn_noted counter.Order s) j
         ≡ list_any (draws j) (edit.SetCounter counter.Order m ∷ edits)
     by counter.Approval = h.counters counter.Approval
     by counter.Build = h.counters counter.Build
     by counter.Order = refl
 
 pub draw_is_noted : (e : Edit) (k : Counter) (m : ℕ) → e ≡ edit.SetCounter k m → (edits : List Edit) (s t : Later) →
-    t ≡ with_drawn k s → IsNotedOf edits s → IsNotedOf (e ∷ edits) t
+    t ≡ drawn_noted k s → IsNotedOf edits s → IsNotedOf (e ∷ edits) t
 draw_is_noted e k m is edits s t new h =
     subst (λ x. IsNotedOf (x ∷ edits) t) (sym is)
     (subst (IsNotedOf (edit.SetCounter k m ∷ edits)) (sym new) (draw_noted k m edits s h))

@@ -11,8 +11,8 @@ abbrev pub Replying : Type 0 → Type 1
 Replying S = S → List ℕ → List ℕ → S → Type 0
 
 -- a line within the limit is answered by its replies; a longer one is too large, and changes nothing
-abbrev pub Answers : {S : Type 0} → Replying S → S → List ℕ → List ℕ → S → Type 0
-Answers replies s line text after =
+abbrev pub AnswersLine : {S : Type 0} → Replying S → S → List ℕ → List ℕ → S → Type 0
+AnswersLine replies s line text after =
     ((length line ≤ most_bytes) × replies s line text after)
     ⊎ ((most_bytes < length line) × (text ≡ too_large) × (after ≡ s))
 
@@ -21,7 +21,7 @@ abbrev pub Runs : {S : Type 0} → Replying S → S → List (List ℕ) → List
 Runs {S} replies s [] text after = (text ≡ []) × (after ≡ s)
 Runs {S} replies s (line ∷ lines) text after =
     (said : List ℕ) × (more : List ℕ) × (mid : S)
-    × Answers replies s line said mid × (text ≡ (said ++ 10 ∷ []) ++ more) × Runs replies mid lines more after
+    × AnswersLine replies s line said mid × (text ≡ (said ++ 10 ∷ []) ++ more) × Runs replies mid lines more after
 
 -- the lines are answered, and their texts written
 pub record Fed {S : Type 0} (replies : Replying S) (s : S) (lines : List (List ℕ)) (after : S)
@@ -31,7 +31,7 @@ pub record Fed {S : Type 0} (replies : Replying S) (s : S) (lines : List (List �
   pub written : Appends old new text
 
 -- the first of the lines are answered, and the last of these was cut in writing
-pub record Broke {S : Type 0} (replies : Replying S) (s : S) (lines : List (List ℕ)) (after : S)
+pub record BrokeInWriting {S : Type 0} (replies : Replying S) (s : S) (lines : List (List ℕ)) (after : S)
     (old new : Option (List ℕ)) : Type 0 where
   pub done : List (List ℕ)
   pub line : List ℕ
@@ -41,7 +41,7 @@ pub record Broke {S : Type 0} (replies : Replying S) (s : S) (lines : List (List
   pub mid : S
   pub ran : Runs replies s done text mid
   pub said : List ℕ
-  pub answered : Answers replies mid line said after
+  pub answered : AnswersLine replies mid line said after
   pub at : ℕ
   pub short : at < length (said ++ 10 ∷ [])
   pub written : Appends old new (text ++ take at (said ++ 10 ∷ []))
@@ -52,4 +52,5 @@ FedTo held replies s lines after old new = Fed replies s lines after (held (insi
 
 abbrev pub BrokeTo : {S T : Type 0} → (T → Option (List ℕ)) → Replying S → S → List (List ℕ) → S → Tap T → Tap T
     → Type 0
-BrokeTo held replies s lines after old new = Broke replies s lines after (held (inside old)) (held (inside new))
+BrokeTo held replies s lines after old new =
+    BrokeInWriting replies s lines after (held (inside old)) (held (inside new))

@@ -77,14 +77,14 @@ has_drawn s counter.Build = s.build
 has_drawn s counter.Order = s.order
 
 -- that noted
-abbrev pub with_drawn : Counter → Later → Later
-with_drawn counter.Approval s = record s { approval = true }
-with_drawn counter.Build s = record s { build = true }
-with_drawn counter.Order s = record s { order = true }
+abbrev pub drawn_noted : Counter → Later → Later
+drawn_noted counter.Approval s = record s { approval = true }
+drawn_noted counter.Build s = record s { build = true }
+drawn_noted counter.Order s = record s { order = true }
 
 -- one of these names is this one
-abbrev pub is_named : List ℕ → List (List ℕ) → Bool
-is_named name names = list_any (λ queue. same_name queue name) names
+abbrev pub is_among_names : List ℕ → List (List ℕ) → Bool
+is_among_names name names = list_any (λ queue. same_name queue name) names
 
 -- the window of a queue is noted besides
 pub record HasNoted (queue : List ℕ) (old new : Later) : Type 0 where
@@ -100,4 +100,4 @@ AreNumbersOf edits numbers = (n : ℕ) → contains nat_cmp numbers n ≡ list_a
 pub record IsNotedOf (edits : List Edit) (s : Later) : Type 0 where
   pub changes : AreNumbersOf edits s.changes
   pub counters : (k : Counter) → has_drawn s k ≡ list_any (draws k) edits
-  pub windows : (name : List ℕ) → is_named name s.windows.items ≡ list_any (sets_window name) edits
+  pub windows : (name : List ℕ) → is_among_names name s.windows.items ≡ list_any (sets_window name) edits

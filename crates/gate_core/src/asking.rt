@@ -3,7 +3,7 @@ ghost use Rattle.std.specs.Prelude.{◌≡◌, ◌⊎◌, [], false, None, Some,
 ghost use Rattle.std.specs.Prelude.{string_bytes};
 ghost use Rattle.gate_types.specs.State.{known_change};
 ghost use Rattle.gate_types.specs.Tap.{has_failed};
-ghost use Rattle.gate_book_trait.specs.Writes.{Stops};
+ghost use Rattle.gate_book_trait.specs.Writes.{StopsHistoryWriter};
 ghost use Rattle.gate_archive.specs.ChangeText.{change_text};
 ghost use Rattle.gate_archive.specs.ItemText.{item_text};
 ghost use Rattle.gate_archive.specs.RunningBuilds.{running_text};
@@ -119,7 +119,7 @@ impl<B: Archive> Gate<B> {
         requires { has_failed w.old ≡ false }
         ensures written { OfBook B.IsTrusted B.Holds self.old self.new (λ x.
             WritesHistoryFrom x.state queue.now from front.now W.contents w.old w.new result) }
-        ensures stops { Stops w.old w.new result }
+        ensures stops { StopsHistoryWriter w.old w.new result }
         ensures recent { MatchResult result (λ _. recent_of self.new ≡ recent_of self.old)
             (AfterFault (recent_of self.old) (recent_of self.new)) }
         ensures kept { IsKeptGate B.IsTrusted B.Holds B.LeavesOneOf self.old self.new }

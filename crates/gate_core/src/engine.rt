@@ -4,10 +4,10 @@ ghost use Rattle.std.specs.Prelude.{length};
 ghost use Rattle.std.specs.Io.Iter.{u64_saturate};
 ghost use Rattle.gate_types.specs.Tap.{inside, has_failed, Gave, IsReadOut, Took, TookFront};
 ghost use Rattle.gate_types.specs.Limits.{most_bytes};
-ghost use Rattle.gate_core.specs.Line.{Holds};
+ghost use Rattle.gate_core.specs.Line.{HoldsLine};
 ghost use Rattle.gate_core.specs.Gathered.{whole_from, rest_from};
 ghost use Rattle.gate_core.specs.Lines.{whole_lines, lines_of, ReadFor};
-ghost use Rattle.gate_core.specs.Runs.{Answers, FedTo, BrokeTo};
+ghost use Rattle.gate_core.specs.Runs.{AnswersLine, FedTo, BrokeTo};
 ghost use Rattle.gate_core.specs.LineAnswer.{text_of};
 
 use crate::fault::ReplayFault;
@@ -43,12 +43,12 @@ fn answer<G: AnswerLines, W: Write>(
     w: &mut Tap<W>,
 ) -> Result<(), Failed>
     requires { has_failed w.old ≡ false }
-    ensures ok { OnOk result ((begun : List ℕ) → Holds line.now begun → (said : List ℕ)
-        × Answers G.replies gate.old begun said gate.new
+    ensures ok { OnOk result ((begun : List ℕ) → HoldsLine line.now begun → (said : List ℕ)
+        × AnswersLine G.replies gate.old begun said gate.new
         × Took W.contents w.old w.new (said ++ 10 ∷ [])) }
     ensures unfailed { OnOk result (has_failed w.new ≡ false) }
-    ensures err { OnErr result ((begun : List ℕ) → Holds line.now begun → (said : List ℕ)
-        × Answers G.replies gate.old begun said gate.new
+    ensures err { OnErr result ((begun : List ℕ) → HoldsLine line.now begun → (said : List ℕ)
+        × AnswersLine G.replies gate.old begun said gate.new
         × TookFront W.contents w.old w.new (said ++ 10 ∷ [])) }
     ensures failed { OnErr result (has_failed w.new ≡ true) }
 {
@@ -71,12 +71,12 @@ fn feed<G: AnswerLines, W: Write>(
     mut count: u64,
 ) -> Result<u64, Failed>
     requires { has_failed w.old ≡ false }
-    ensures ok { IfOk result (λ n. (begun : List ℕ) → Holds line.old begun →
+    ensures ok { IfOk result (λ n. (begun : List ℕ) → HoldsLine line.old begun →
         FedTo W.contents G.replies gate.old (whole_from begun bytes.now) gate.new w.old w.new
-        × Holds line.new (rest_from begun bytes.now)
+        × HoldsLine line.new (rest_from begun bytes.now)
         × (n ≡ u64_saturate (count + length (whole_from begun bytes.now)))) }
     ensures unfailed { OnOk result (has_failed w.new ≡ false) }
-    ensures err { OnErr result ((begun : List ℕ) → Holds line.old begun →
+    ensures err { OnErr result ((begun : List ℕ) → HoldsLine line.old begun →
         BrokeTo W.contents G.replies gate.old (whole_from begun bytes.now) gate.new w.old w.new) }
     ensures failed { OnErr result (has_failed w.new ≡ true) }
 {

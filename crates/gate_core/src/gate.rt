@@ -7,7 +7,7 @@ ghost use Rattle.gate_types.specs.OrderList.{order_list_text};
 ghost use Rattle.gate_types.specs.Status.{status_text};
 ghost use Rattle.gate_types.specs.Step.{build_of};
 ghost use Rattle.gate_types.specs.Tap.{has_failed};
-ghost use Rattle.gate_book_trait.specs.Writes.{WritesHistory, Stops};
+ghost use Rattle.gate_book_trait.specs.Writes.{WritesHistory, StopsHistoryWriter};
 ghost use Rattle.gate_core.specs.Answered.{Answered, call};
 ghost use Rattle.gate_core.specs.Holding.{GateHolds, IsKeptGate, IsNew, OfBook, OfGate};
 ghost use Rattle.gate_core.specs.Holding.{book_of, recent_of, settings_of};
@@ -205,7 +205,7 @@ impl<B: Book> Gate<B> {
         requires { has_failed w.old ≡ false }
         ensures written { OfBook B.IsTrusted B.Holds self.old self.new (λ x.
             WritesHistory x.state queue.now front.now W.contents w.old w.new result) }
-        ensures stops { Stops w.old w.new result }
+        ensures stops { StopsHistoryWriter w.old w.new result }
         ensures recent { MatchResult result (λ _. recent_of self.new ≡ recent_of self.old)
             (AfterFault (recent_of self.old) (recent_of self.new)) }
         ensures kept { IsKeptGate B.IsTrusted B.Holds B.LeavesOneOf self.old self.new }

@@ -16,10 +16,10 @@ pub struct Line {
 }
 
 impl Line {
-    ghost use Rattle.gate_core.specs.Line.{Holds, Shows};
+    ghost use Rattle.gate_core.specs.Line.{HoldsLine, ShowsLine};
 
     pub(crate) fn new(alloc: Global) -> Result<Line, AllocError>
-        ensures { IfOk result (λ line. Holds line []) }
+        ensures { IfOk result (λ line. HoldsLine line []) }
     {
         Ok(Line {
             bytes: Vec::with_capacity(alloc, MOST_BYTES)?,
@@ -28,7 +28,7 @@ impl Line {
     }
 
     pub(crate) fn push(&mut self, byte: u8)
-        ensures { (begun : List ℕ) → Holds self.old begun → Holds self.new (begun ++ byte ∷ []) }
+        ensures { (begun : List ℕ) → HoldsLine self.old begun → HoldsLine self.new (begun ++ byte ∷ []) }
     {
         if self.bytes.len() < MOST_BYTES {
             self.bytes.push_reserved(byte);
@@ -38,7 +38,7 @@ impl Line {
     }
 
     pub(crate) fn clear(&mut self)
-        ensures { Holds self.new [] }
+        ensures { HoldsLine self.new [] }
     {
         self.bytes.clear();
         self.long = false;
@@ -47,7 +47,7 @@ impl Line {
     /// The line, or nothing where it is too long.
     pub(crate) fn get(&self) -> Option<&[u8]>
         ensures within { IfSome result (λ s. length s.now ≤ most_bytes) }
-        ensures shows { (begun : List ℕ) → Holds self.now begun → Shows result begun }
+        ensures shows { (begun : List ℕ) → HoldsLine self.now begun → ShowsLine result begun }
     {
         if self.long {
             None
@@ -57,7 +57,7 @@ impl Line {
     }
 
     pub(crate) fn is_empty(&self) -> bool
-        ensures { (begun : List ℕ) → Holds self.now begun → IsTrue result ↔ (begun ≡ []) }
+        ensures { (begun : List ℕ) → HoldsLine self.now begun → IsTrue result ↔ (begun ≡ []) }
     {
         self.bytes.is_empty()
     }

@@ -2,7 +2,7 @@
 ghost use Rattle.std.specs.Prelude.{◌≡◌, ℕ, List, OnOk, IfOk, IsErrOf, true, false, length};
 ghost use Rattle.std.specs.Io.Iter.{u64_saturate};
 ghost use Rattle.gate_types.specs.Tap.{inside, has_failed, Gave, IsReadOut, Took};
-ghost use Rattle.gate_types.specs.Gated.{Gated, opened};
+ghost use Rattle.gate_types.specs.Gated.{Gated, new_gate};
 ghost use Rattle.gate_core.specs.Holding.{IsNew, book_of, settings_of};
 ghost use Rattle.gate_core.specs.Lines.{whole_lines, lines_of, ReadFor};
 ghost use Rattle.gate_core.specs.Replies.{Marked, CallsAreAnswered, Replayed};
@@ -44,7 +44,7 @@ pub fn replay<B: Book, R: Read, W: Write>(
     ensures anew { IfOk result (λ n. IsNew B.Holds gate.old → B.IsTrusted (book_of gate.new) →
         (input : List ℕ) × Gave R.remaining r.old r.new input × IsReadOut R.remaining r.new
         × (text : List ℕ) × Took W.contents w.old w.new text
-        × (after : Gated) × Replayed (opened (settings_of gate.old)) (lines_of input) text after
+        × (after : Gated) × Replayed (new_gate (settings_of gate.old)) (lines_of input) text after
         × B.Holds (book_of gate.new) (settings_of gate.old) after.content) }
     // the lines before the one that the error cut
     ensures read { IsErrOf result ReplayFault.Read → (front : List ℕ)

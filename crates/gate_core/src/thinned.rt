@@ -26,12 +26,12 @@ struct Later {
 
 impl Later {
     ghost use Rattle.std.specs.Prelude.{◌≡◌, not, IfOk, OnOk};
-    ghost use Rattle.gate_core.specs.Thinned.{has_drawn, is_named, with_drawn, HasNoted};
+    ghost use Rattle.gate_core.specs.Thinned.{has_drawn, is_among_names, drawn_noted, HasNoted};
 
     /// Whether no later edit draws from a counter; this one is noted.
     fn is_last_drawn(&mut self, counter: Counter) -> bool
         ensures last { result ≡ not (has_drawn self.old counter) }
-        ensures noted { self.new ≡ with_drawn counter self.old }
+        ensures noted { self.new ≡ drawn_noted counter self.old }
     {
         match counter {
             Counter::Approval => {
@@ -54,7 +54,7 @@ impl Later {
 
     /// Whether no later edit sets the window of a queue; this one is noted.
     fn is_last_window(&mut self, queue: &Name) -> Result<bool, NoMemory>
-        ensures last { IfOk result (λ last. last ≡ not (is_named queue.now self.old.windows.items)) }
+        ensures last { IfOk result (λ last. last ≡ not (is_among_names queue.now self.old.windows.items)) }
         ensures noted { OnOk result (HasNoted queue.now self.old self.new) }
     {
         let is_last = !is_named(self.windows.as_slice(), queue);
@@ -65,7 +65,7 @@ impl Later {
 
 /// Whether a queue is one of these.
 fn is_named(queues: &[Name], name: &Name) -> bool
-    ensures { result ≡ thinning.is_named name.now queues.now }
+    ensures { result ≡ thinning.is_among_names name.now queues.now }
 {
     queues.iter().any(|queue| same_name(queue, name))
 }

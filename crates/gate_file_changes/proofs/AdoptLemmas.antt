@@ -21,7 +21,7 @@ use Rattle.gate_types.proofs.AdoptedLemmas.{tables_adopted}
 use Rattle.gate_types.proofs.NameLemmas.{same_name_is}
 use Rattle.gate_rows.specs.Matches.{StandsFor, Matches, of_queue, placed}
 use Rattle.gate_schema.specs.Rows.{QueueRow, Stands, Stored}
-use Rattle.gate_file_changes.specs.Adopts.{CanAdopt, resized, rewritten, window_in}
+use Rattle.gate_file_changes.specs.Adopts.{CanAdopt, resized_setting, rewritten, window_in}
 use Rattle.gate_file_changes.specs.Making.{first_queue_rows}
 
 -- ---- names
@@ -95,11 +95,11 @@ adopted_window_is c told r =
     by_found (Some q) = refl
 
 -- the rows of the queues, in their new places
-places_adopted : (c : Settings) (told : List QueueRows) (n : ℕ) (rs : List QueueSetting) → first_queue_rows n (map (resized c (placed 0 told)) rs) ≡ placed n (map (adopted_rows c told) rs)
+places_adopted : (c : Settings) (told : List QueueRows) (n : ℕ) (rs : List QueueSetting) → first_queue_rows n (map (resized_setting c (placed 0 told)) rs) ≡ placed n (map (adopted_rows c told) rs)
 places_adopted c told n [] = refl
 places_adopted c told n (r ∷ rs) =
-    ap (λ w. record { name = r.name; place = n; window = w } ∷ first_queue_rows (suc n) (map (resized c (placed 0 told)) rs)) (adopted_window_is c told r)
-    ∙ ap (λ name. record { name = name; place = n; window = (adopted_rows c told r).window } ∷ first_queue_rows (suc n) (map (resized c (placed 0 told)) rs)) (sym (adopted_name c told r))
+    ap (λ w. record { name = r.name; place = n; window = w } ∷ first_queue_rows (suc n) (map (resized_setting c (placed 0 told)) rs)) (adopted_window_is c told r)
+    ∙ ap (λ name. record { name = name; place = n; window = (adopted_rows c told r).window } ∷ first_queue_rows (suc n) (map (resized_setting c (placed 0 told)) rs)) (sym (adopted_name c told r))
     ∙ ap (λ l. record { name = (adopted_rows c told r).name; place = n; window = (adopted_rows c told r).window } ∷ l) (places_adopted c told (suc n) rs)
 
 -- ---- the lists of a queue
@@ -176,15 +176,15 @@ none_gone c d x its may name any =
     (ap (λ ms. list_any (λ m. same_name m name) ms) (sym (told_names c x its)) ∙ sym (any_named (λ (q : QueueRows). q.name) name (tables c x).queues) ∙ any)
 
 pub matches_adopted : (c d : Settings) (x : Content) (b : Stored) → HasItsQueues c x → may_adopt c d ≡ true → Matches b (tables c x) →
-    Matches (rewritten (settings_text d) (map (resized c b.queues) d.queues) b) (tables d (adopted_content c d x))
+    Matches (rewritten (settings_text d) (map (resized_setting c b.queues) d.queues) b) (tables d (adopted_content c d x))
 matches_adopted c d x b its may h =
     let told = (tables c x).queues in
     let there = none_gone c d x its may in
     let are = h.queues_are in
-    subst (Matches (rewritten (settings_text d) (map (resized c b.queues) d.queues) b)) (sym (tables_adopted c d x)) (record {
+    subst (Matches (rewritten (settings_text d) (map (resized_setting c b.queues) d.queues) b)) (sym (tables_adopted c d x)) (record {
       counters_are = h.counters_are;
       queues_are = record {
-        places = ap (λ rows. first_queue_rows 0 (map (resized c rows) d.queues)) are.places ∙ places_adopted c told 0 d.queues;
+        places = ap (λ rows. first_queue_rows 0 (map (resized_setting c rows) d.queues)) are.places ∙ places_adopted c told 0 d.queues;
         items_are = λ name. are.items_are name ∙ sym (still_there (λ q. q.items) (record { resized_same = λ q w. refl; none_there = λ r. refl }) c told d.queues there name);
         landings_are = λ name. subst (IsPermutation _) (sym (still_there (λ q. q.landings) (record { resized_same = λ q w. refl; none_there = λ r. refl }) c told d.queues there name)) (are.landings_are name);
         reports_are = λ name. subst (IsPermutation _) (sym (still_there (λ q. q.reports) (record { resized_same = λ q w. refl; none_there = λ r. refl }) c told d.queues there name)) (are.reports_are name);
@@ -198,12 +198,12 @@ matches_adopted c d x b its may h =
 
 -- tables rewritten so stand for the content that the other settings adopt
 pub stands_adopted : (old new : Trees) (c d : Settings) (x : Content) (text : List ℕ) (can : CanAdopt old c d x) → text ≡ settings_text d →
-    Stands new (rewritten text (map (resized c can.stands.stored.queues) d.queues) can.stands.stored) → StandsFor new d (adopted_content c d x)
+    Stands new (rewritten text (map (resized_setting c can.stands.stored.queues) d.queues) can.stands.stored) → StandsFor new d (adopted_content c d x)
 stands_adopted old new c d x text can is stands =
     let b = can.stands.stored in
     record {
-      stored = rewritten (settings_text d) (map (resized c b.queues) d.queues) b;
-      stands = subst (λ t. Stands new (rewritten t (map (resized c b.queues) d.queues) b)) is stands;
+      stored = rewritten (settings_text d) (map (resized_setting c b.queues) d.queues) b;
+      stands = subst (λ t. Stands new (rewritten t (map (resized_setting c b.queues) d.queues) b)) is stands;
       settings = refl;
       matches = matches_adopted c d x b can.lawful.lawful.sound.queues_are_set can.may can.stands.matches;
     }

@@ -27,9 +27,9 @@ use Rattle.gate_types.specs.declared.config.Job.{Job}
 use Rattle.gate_types.specs.declared.edits.Edit.{Edit}
 use Rattle.gate_types.specs.declared.edits.Edit.TheVariants as edit
 use Rattle.gate_types.specs.declared.records.Plan.{Plan}
-use Rattle.gate_schema.specs.Edits.{after_edit, after_edits, with_window}
+use Rattle.gate_schema.specs.Edits.{after_edit, after_edits, at_window}
 use Rattle.gate_schema.specs.Rows.{AreNamed, Changes, QueueRow, Stands, Stored}
-use Rattle.gate_rows.specs.Matches.{FitsBeside, HaveJobs, IsInOrder, IsTold, NamesQueue, StandsFor, Matches, placed}
+use Rattle.gate_rows.specs.Matches.{FitsBeside, HaveJobs, IsInOrder, EditIsTold, NamesQueue, StandsFor, Matches, placed}
 use Rattle.gate_rows.proofs.PlanMatches.{jobs_stay}
 use Rattle.gate_rows.proofs.ThenLemmas.{changes_same, changes_then}
 use Rattle.gate_rows.proofs.UniqueLemmas.{are_named}
@@ -37,7 +37,7 @@ use Rattle.gate_found_rows.specs.Finds.{Stays}
 use Rattle.gate_book_trait.specs.Kept.{IsApplied}
 use Rattle.gate_book_trait.specs.declared.fault.BookFault.{BookFault}
 use Rattle.gate_book_trait.specs.declared.fault.BookFault.TheVariants as fault
-use Rattle.gate_file_changes.specs.Applies.{CanLead, IsLed, LeavesOrStands, OfLawful, Settles, Steps, Turns}
+use Rattle.gate_file_changes.specs.Applies.{CanLead, IsLedTo, LeavesOrStands, OfLawful, LeavesTurned, Steps, TurnsInto}
 use Rattle.gate_file_changes.specs.Applies.{are_known, is_among, is_known, names_in}
 use Rattle.gate_table_laws.specs.Held.{HoldsFor, IsShownFor, ShowsFor, StandsForOne, queue_names}
 
@@ -45,11 +45,11 @@ use Rattle.gate_table_laws.specs.Held.{HoldsFor, IsShownFor, ShowsFor, StandsFor
 
 -- a window set leaves the names
 window_keeps : (name : List ℕ) (w : ℕ) (qs : List QueueRow)
-    → map (λ (q : QueueRow). q.name) (map (λ (q : QueueRow). cond (same_name q.name name) (with_window w q) q) qs) ≡ map (λ (q : QueueRow). q.name) qs
+    → map (λ (q : QueueRow). q.name) (map (λ (q : QueueRow). cond (same_name q.name name) (at_window w q) q) qs) ≡ map (λ (q : QueueRow). q.name) qs
 window_keeps name w [] = refl
 window_keeps name w (q ∷ qs) =
-    ap (λ l. (cond (same_name q.name name) (with_window w q) q).name ∷ l) (window_keeps name w qs)
-    ∙ elim (same_name q.name name) as (λ c. (cond c (with_window w q) q).name ∷ map (λ (q : QueueRow). q.name) qs ≡ q.name ∷ map (λ (q : QueueRow). q.name) qs) [ true ↦ refl | false ↦ refl ]
+    ap (λ l. (cond (same_name q.name name) (at_window w q) q).name ∷ l) (window_keeps name w qs)
+    ∙ elim (same_name q.name name) as (λ c. (cond c (at_window w q) q).name ∷ map (λ (q : QueueRow). q.name) qs ≡ q.name ∷ map (λ (q : QueueRow). q.name) qs) [ true ↦ refl | false ↦ refl ]
 
 -- so does each edit
 edit_keeps_names : (e : Edit) (b : Stored) → names_in (after_edit e b) ≡ names_in b
@@ -116,7 +116,7 @@ stands_in_order : (s : State) (b : Stored) → Stands s.now.trees b → IsInOrde
 stands_in_order s b stands = record { changes = stands.change.in_order; items = stands.item.in_order; builds = stands.build.in_order; fast = stands.fast.in_order }
 
 -- one edit more
-pub steps_more : ((e : Edit) → IsTold e) → (first old new : State) (edits : List Edit) (i : ℕ) (e : Edit) → i < length edits → e ≡ get_or edits i e
+pub steps_more : ((e : Edit) → EditIsTold e) → (first old new : State) (edits : List Edit) (i : ℕ) (e : Edit) → i < length edits → e ≡ get_or edits i e
     → Steps first old (take i edits) → Changes old new (after_edit e) → ((b : Stored) → AreNamed b → Stands old.now.trees b → FitsBeside e b) → Steps first new (take (i + 1) edits)
 steps_more law first old new edits i e within is steps change beside =
     let after : (b : Stored) → after_edit e (after_edits (take i edits) b) ≡ after_edits (take (i + 1) edits) b =
@@ -147,7 +147,7 @@ placed_names n [] = refl
 placed_names n (q ∷ qs) = ap (λ l. q.name ∷ l) (placed_names (suc n) qs)
 
 -- the edits lead where they are to
-pub steps_turn : (old new : State) (edits : List Edit) → Steps old new edits → Turns old new edits
+pub steps_turn : (old new : State) (edits : List Edit) → Steps old new edits → TurnsInto old new edits
 steps_turn old new edits steps = record {
   ready = steps.changes.ready;
   stands = λ c x y can.
@@ -185,7 +185,7 @@ pub unchanged_shows : (old mid : State) (c : Settings) (x : Content) → IsUncha
 unchanged_shows old mid c x same shows = stays_shows old mid c x (record { was_open = λ _. same.0.was_open; now_is = λ _. same.0.now_is }) shows same.0.is_open
 
 -- a connection that is open shows sound tables
-pub can_lead : (s : State) (c : Settings) (x : Content) (edits : List Edit) (y : Content) → IsLive s → IsTrue s.is_open → IsShownFor s c x → IsLed c x edits y → CanLead s.now.trees c x edits y
+pub can_lead : (s : State) (c : Settings) (x : Content) (edits : List Edit) (y : Content) → IsLive s → IsTrue s.is_open → IsShownFor s c x → IsLedTo c x edits y → CanLead s.now.trees c x edits y
 can_lead s c x edits y live up shown led = record { sound = subst (λ t. IsSound t s.now.trees) shown.schema_is (live up).0; stands = shown.stands; led = led }
 
 -- sound jobs are some
@@ -195,7 +195,7 @@ some_sound (j ∷ js) sound = omega arith
 
 -- a lawful content has the queues of the settings, and its plans have jobs
 pub led_by : (names : List (List ℕ)) (c : Settings) (x : Content) (edits : List Edit) (y : Content) → names ≡ queue_names c → IsLawfulContent c x → are_known names edits ≡ true → Leads c x edits y
-    → IsLed c x edits y
+    → IsLedTo c x edits y
 led_by names c x edits y same lawful known leads = record {
   queues_are_set = lawful.lawful.sound.queues_are_set;
   planned = all_weaker _ _ (λ (p : Plan) sound. some_sound p.jobs sound) x.state.plans (recursion_from_All _ x.state.plans lawful.lawful.sound.planned.sound);
@@ -224,7 +224,7 @@ one_of_last db c (x ∷ xs) y h = inr (one_of_last db c xs y h)
 -- a book holds what its connection shows, and leaves what a crash of that leaves
 pub applied : {B : Type 0} (at : B → State) (names : B → List (List ℕ)) (old new : B) (edits : List Edit) (result : Result (Unit {0}) BookFault) → names new ≡ names old
     → OfLawful (at old) (at new) (names old) edits (λ c y. OnOk result (ShowsFor (at new) c y))
-    → OfLawful (at old) (at new) (names old) edits (λ c y. OnOk result (Settles edits (at new) c y))
+    → OfLawful (at old) (at new) (names old) edits (λ c y. OnOk result (LeavesTurned edits (at new) c y))
     → OfLawful (at old) (at new) (names old) edits (λ c y. LeavesOrStands (at old) (at new) c y)
     → IfErr result (λ f. f ≢ fault.Damaged)
     → HasCleanDisk (at new) → (c : Settings) (x y : Content) → HoldsFor (at old) (names old) c x → IsLawfulContent c x → Leads c x edits y

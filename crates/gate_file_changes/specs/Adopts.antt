@@ -17,8 +17,8 @@ abbrev pub window_in : List QueueRow → List ℕ → Option ℕ
 window_in rows name = option_map (λ (q : QueueRow). q.window) (find (λ (q : QueueRow). same_name q.name name) rows)
 
 -- the setting of a queue, with the window that it gets beside these rows
-abbrev pub resized : Settings → List QueueRow → QueueSetting → QueueSetting
-resized c rows r = record r { window = adopted_window c r (window_in rows r.name) }
+abbrev pub resized_setting : Settings → List QueueRow → QueueSetting → QueueSetting
+resized_setting c rows r = record r { window = adopted_window c r (window_in rows r.name) }
 
 -- the text of the settings in place of the one that is kept
 abbrev pub with_settings : List ℕ → Stored → Stored

@@ -39,7 +39,7 @@ are_known names edits = list_all (is_known names) edits
 -- ---- what the edits lead to
 
 -- a content has the queues of the settings, and its plans have jobs; edits of these queues lead to another
-pub record IsLed (c : Settings) (x : Content) (edits : List Edit) (y : Content) : Type 0 where
+pub record IsLedTo (c : Settings) (x : Content) (edits : List Edit) (y : Content) : Type 0 where
   pub queues_are_set : map (λ (q : Queue). q.name) x.state.queues ≡ queue_names c
   pub planned : HaveJobs x.state.plans
   pub known : are_known (queue_names c) edits ≡ true
@@ -49,10 +49,10 @@ pub record IsLed (c : Settings) (x : Content) (edits : List Edit) (y : Content) 
 pub record CanLead (db : Trees) (c : Settings) (x : Content) (edits : List Edit) (y : Content) : Type 0 where
   pub sound : IsSound gate_schema db
   pub stands : StandsFor db c x
-  pub led : IsLed c x edits y
+  pub led : IsLedTo c x edits y
 
 -- within a transaction: tables that stand for a content are made to stand for the one that the edits lead to
-pub record Turns (old new : State) (edits : List Edit) : Type 0 where
+pub record TurnsInto (old new : State) (edits : List Edit) : Type 0 where
   pub ready : IsReady new
   pub stands : (c : Settings) (x y : Content) → CanLead old.now.trees c x edits y → StandsFor new.now.trees c y
 
@@ -75,7 +75,7 @@ pub record Steps (old new : State) (edits : List Edit) : Type 0 where
 -- what is so of the content that edits lead to, from one that a connection showed
 abbrev pub OfLed : State → State → List Edit → (Settings → Content → Type 0) → Type 0
 OfLed old new edits P =
-    HasCleanDisk new → (c : Settings) (x y : Content) → ShowsFor old c x → IsLed c x edits y → P c y
+    HasCleanDisk new → (c : Settings) (x y : Content) → ShowsFor old c x → IsLedTo c x edits y → P c y
 
 -- the same from a lawful content, under the settings of queues of these names
 abbrev pub OfLawful : State → State → List (List ℕ) → List Edit → (Settings → Content → Type 0) → Type 0
@@ -84,8 +84,8 @@ OfLawful old new names edits P =
     IsLawfulContent c x → Leads c x edits y → P c y
 
 -- where there was an edit, a crash leaves tables that stand for the content
-abbrev pub Settles : List Edit → State → Settings → Content → Type 0
-Settles edits s c y = 0 < length edits → (db : Trees) → s.may_leave db → StandsFor db c y
+abbrev pub LeavesTurned : List Edit → State → Settings → Content → Type 0
+LeavesTurned edits s c y = 0 < length edits → (db : Trees) → s.may_leave db → StandsFor db c y
 
 -- a crash leaves what it could leave before, or tables that stand for the content
 abbrev pub LeavesOrStands : State → State → Settings → Content → Type 0

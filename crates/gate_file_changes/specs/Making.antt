@@ -13,13 +13,13 @@ use Rattle.gate_schema.specs.Schema.{gate_schema}
 -- ---- the rows before the first delivery
 
 -- a queue's row, at its index
-abbrev pub queue_row : ℕ → Queue → QueueRow
-queue_row index q = record { name = q.name; place = index; window = q.window }
+abbrev pub queue_row_at : ℕ → Queue → QueueRow
+queue_row_at index q = record { name = q.name; place = index; window = q.window }
 
 -- the queues' rows, by their indexes from n on
 abbrev pub first_queue_rows : ℕ → List Queue → List QueueRow
 first_queue_rows n [] = []
-first_queue_rows n (q ∷ qs) = queue_row n q ∷ first_queue_rows (suc n) qs
+first_queue_rows n (q ∷ qs) = queue_row_at n q ∷ first_queue_rows (suc n) qs
 
 -- these rows of queues, and this text of the settings; nothing else
 abbrev pub first_stored : List ℕ → List QueueRow → Stored
@@ -79,8 +79,8 @@ abbrev pub IsInside : State → Type 0
 IsInside s = IsTrue s.in_transaction
 
 -- the connection is up, and what it shows is committed
-abbrev pub IsSettled : State → Type 0
-IsSettled s = IsTrue s.is_open × (s.committed ≡ s.now)
+abbrev pub IsUpAndCommitted : State → Type 0
+IsUpAndCommitted s = IsTrue s.is_open × (s.committed ≡ s.now)
 
 -- nothing is committed
 abbrev pub KeepsInside : State → State → Type 0

@@ -12,10 +12,10 @@ ghost use Rattle.gate_rows.specs.Writes.{LeavesNothing};
 ghost use Rattle.gate_schema.specs.Rows.{Stands};
 ghost use Rattle.gate_schema.specs.Schema.{gate_schema};
 ghost use Rattle.gate_found_rows.specs.Finds.{Stays};
-ghost use Rattle.gate_found_rows.specs.Reads.{IsOnlyRead, IsShown, Shows, Tells};
-ghost use Rattle.gate_file_changes.specs.Adopts.{CanAdopt, resized, rewritten, with_settings};
+ghost use Rattle.gate_found_rows.specs.Reads.{IsOnlyRead, IsStoredIn, Shows, Tells};
+ghost use Rattle.gate_file_changes.specs.Adopts.{CanAdopt, resized_setting, rewritten, with_settings};
 ghost use Rattle.gate_table_laws.specs.Held.{IsShownFor};
-ghost use Rattle.gate_file_changes.specs.Making.{IsFilled, IsInside, IsSettled, KeepsInside, Turns, with_rows};
+ghost use Rattle.gate_file_changes.specs.Making.{IsFilled, IsInside, IsUpAndCommitted, KeepsInside, Turns, with_rows};
 
 use crate::filling::add_queues;
 use gate_book_trait::BookFault;
@@ -51,7 +51,7 @@ fn resized_queue<S: Alter>(
     queue: &Queue,
 ) -> Result<Queue, BookFault>
     ensures found { Tells (state S.Store conn.old) (state S.Store conn.new) result (λ b.
-        resized held.now b.queues queue.now) }
+        resized_setting held.now b.queues queue.now) }
     ensures only_reads { IsOnlyRead (state S.Store conn.old) (state S.Store conn.new) }
 {
     let present = window(conn, &queue.name)?;
@@ -66,7 +66,7 @@ fn resized_queues<S: Alter>(
     queues: &[Queue],
 ) -> Result<Sequence<Queue>, BookFault>
     ensures found { Tells (state S.Store conn.old) (state S.Store conn.new) result (λ b.
-        map (resized held.now b.queues) queues.now) }
+        map (resized_setting held.now b.queues) queues.now) }
     ensures only_reads { IsOnlyRead (state S.Store conn.old) (state S.Store conn.new) }
 {
     let mut found = Vec::with_capacity(alloc, queues.len())?;
@@ -133,8 +133,8 @@ fn commit_rewritten<S: Alter>(
     requires { conn.old.in_transaction ≡ false }
     ensures all { HasCleanDisk (state S.Store conn.new) → (state S.Store conn.old).now.schema ≡ gate_schema →
         (b : _) → Stands (state S.Store conn.old).now.trees b →
-        OnOk result (IsShown (state S.Store conn.new) (rewritten settings.now queues.now b)) }
-    ensures settled { HasCleanDisk (state S.Store conn.new) → OnOk result (IsSettled (state S.Store conn.new)) }
+        OnOk result (IsStoredIn (state S.Store conn.new) (rewritten settings.now queues.now b)) }
+    ensures settled { HasCleanDisk (state S.Store conn.new) → OnOk result (IsUpAndCommitted (state S.Store conn.new)) }
     ensures none { HasCleanDisk (state S.Store conn.new) →
         OnErr result (Stays (state S.Store conn.old) (state S.Store conn.new)) }
     ensures clean { HasCleanDisk (state S.Store conn.new) → HasCleanDisk (state S.Store conn.old) }
@@ -158,8 +158,8 @@ fn write_rows<S: Alter>(
 ) -> Result<(), Error>
     requires { conn.old.in_transaction ≡ false }
     ensures all { HasCleanDisk (state S.Store conn.new) → (b : _) → Shows (state S.Store conn.old) b →
-        OnOk result (IsShown (state S.Store conn.new) (rewritten settings.now queues.now b)) }
-    ensures settled { HasCleanDisk (state S.Store conn.new) → OnOk result (IsSettled (state S.Store conn.new)) }
+        OnOk result (IsStoredIn (state S.Store conn.new) (rewritten settings.now queues.now b)) }
+    ensures settled { HasCleanDisk (state S.Store conn.new) → OnOk result (IsUpAndCommitted (state S.Store conn.new)) }
     ensures none { HasCleanDisk (state S.Store conn.new) →
         OnErr result (Stays (state S.Store conn.old) (state S.Store conn.new)) }
     ensures clean { HasCleanDisk (state S.Store conn.new) → HasCleanDisk (state S.Store conn.old) }
@@ -185,7 +185,7 @@ pub fn adopt<S: Alter>(
         (state S.Store conn.old).now.schema ≡ gate_schema →
         CanAdopt (state S.Store conn.old).now.trees held.now config.now x →
         OnOk result (IsShownFor (state S.Store conn.new) config.now (adopted_content held.now config.now x)) }
-    ensures settled { HasCleanDisk (state S.Store conn.new) → OnOk result (IsSettled (state S.Store conn.new)) }
+    ensures settled { HasCleanDisk (state S.Store conn.new) → OnOk result (IsUpAndCommitted (state S.Store conn.new)) }
     ensures none { HasCleanDisk (state S.Store conn.new) →
         OnErr result (Stays (state S.Store conn.old) (state S.Store conn.new)) }
     ensures fault { IfErr result (λ f. f ≡ OpenFault.Unavailable) }

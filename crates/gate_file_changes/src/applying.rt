@@ -10,7 +10,8 @@ ghost use Rattle.gate_schema.specs.Schema.{gate_schema};
 ghost use Rattle.gate_rows.specs.Matches.{StandsFor};
 ghost use Rattle.gate_rows.specs.Writes.{Keeps, LeavesNothing};
 ghost use Rattle.gate_found_rows.specs.Finds.{Stays};
-ghost use Rattle.gate_file_changes.specs.Applies.{CanLead, LeavesOrStands, OfLawful, OfLed, Settles, Steps, Turns};
+ghost use Rattle.gate_file_changes.specs.Applies.{CanLead, LeavesOrStands, OfLawful, OfLed, LeavesTurned, Steps};
+ghost use Rattle.gate_file_changes.specs.Applies.{TurnsInto};
 ghost use Rattle.gate_file_changes.specs.Applies.{are_known, is_among, is_known};
 ghost use Rattle.gate_table_laws.specs.Held.{IsShownFor, ShowsFor};
 
@@ -66,7 +67,7 @@ pub fn apply_all<S: Alter>(
 ) -> Result<(), Error>
     ensures same_reference { tx.new.conn.ghost_name ≡ tx.old.conn.ghost_name }
     ensures turns { HasCleanDisk (state S.Store tx.new.conn.now) → IsReady (state S.Store tx.old.conn.now) →
-        OnOk result (Turns (state S.Store tx.old.conn.now) (state S.Store tx.new.conn.now) edits.now) }
+        OnOk result (TurnsInto (state S.Store tx.old.conn.now) (state S.Store tx.new.conn.now) edits.now) }
     ensures steps { HasCleanDisk (state S.Store tx.new.conn.now) → IsReady (state S.Store tx.old.conn.now) →
         OnOk result (Steps (state S.Store tx.old.conn.now) (state S.Store tx.new.conn.now) edits.now) }
     ensures kept { Keeps (state S.Store tx.old.conn.now) (state S.Store tx.new.conn.now) }
@@ -121,7 +122,7 @@ fn apply_known<S: Alter>(
     ensures err { HasCleanDisk (state S.Store conn.new) → (c : Settings) (x : Content) →
         ShowsFor (state S.Store conn.old) c x → OnErr result (ShowsFor (state S.Store conn.new) c x) }
     ensures settled { OfLed (state S.Store conn.old) (state S.Store conn.new) edits.now (λ c y.
-        OnOk result (Settles edits.now (state S.Store conn.new) c y)) }
+        OnOk result (LeavesTurned edits.now (state S.Store conn.new) c y)) }
     ensures crash { OfLed (state S.Store conn.old) (state S.Store conn.new) edits.now (λ c y.
         LeavesOrStands (state S.Store conn.old) (state S.Store conn.new) c y) }
     ensures clean { HasCleanDisk (state S.Store conn.new) → HasCleanDisk (state S.Store conn.old) }
@@ -150,7 +151,7 @@ pub fn apply<S: Alter>(
     ensures err { HasCleanDisk (state S.Store conn.new) → (c : Settings) (x : Content) →
         ShowsFor (state S.Store conn.old) c x → OnErr result (ShowsFor (state S.Store conn.new) c x) }
     ensures settled { OfLawful (state S.Store conn.old) (state S.Store conn.new) queues.now edits.now (λ c y.
-        OnOk result (Settles edits.now (state S.Store conn.new) c y)) }
+        OnOk result (LeavesTurned edits.now (state S.Store conn.new) c y)) }
     ensures crash { OfLawful (state S.Store conn.old) (state S.Store conn.new) queues.now edits.now (λ c y.
         LeavesOrStands (state S.Store conn.old) (state S.Store conn.new) c y) }
     ensures fault { IfErr result (λ f. f ≢ BookFault.Damaged) }

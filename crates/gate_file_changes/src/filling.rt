@@ -6,7 +6,7 @@ ghost use Rattle.sqlite.specs.declared.types.Value.TheVariants.{Int};
 ghost use Rattle.gate_rows.specs.Writes.{LeavesNothing};
 ghost use Rattle.gate_schema.specs.Schema.{gate_schema};
 ghost use Rattle.gate_file_changes.specs.Making.{HasMeta, IsBare, IsFilled, IsInside, KeepsInside, Turns};
-ghost use Rattle.gate_file_changes.specs.Making.{first_stored, queue_row, first_queue_rows, with_queue, with_rows};
+ghost use Rattle.gate_file_changes.specs.Making.{first_stored, queue_row_at, first_queue_rows, with_queue, with_rows};
 
 use gate_types::config::Queue;
 use sqlite::types::{ToSql, ValueRef};
@@ -61,7 +61,7 @@ fn add_queue<S: Alter>(
     requires { index < 2 ^ 63 }
     ensures same_reference { tx.new.conn.ghost_name ≡ tx.old.conn.ghost_name }
     ensures made { (b : _) → Turns (state S.Store tx.old.conn.now) (state S.Store tx.new.conn.now) result
-        (IsFilled b) (IsFilled (with_queue (queue_row index queue.now) b)) }
+        (IsFilled b) (IsFilled (with_queue (queue_row_at index queue.now) b)) }
     ensures inside { Turns (state S.Store tx.old.conn.now) (state S.Store tx.new.conn.now) result IsInside IsInside }
     ensures kept { KeepsInside (state S.Store tx.old.conn.now) (state S.Store tx.new.conn.now) }
     ensures crash { LeavesNothing (state S.Store tx.old.conn.now) (state S.Store tx.new.conn.now) }

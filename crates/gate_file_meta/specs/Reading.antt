@@ -66,7 +66,7 @@ IsJudgedOf (Some fault.OtherSettings) Are d = (kept : List ℕ) × (MayOpen kept
 IsJudgedOf (Some fault.Unavailable) Are d = ⊤
 
 -- a store with these trees is told so: under the schema that they list
-pub record IsToldOf (fault : Option OpenFault) (trees : Trees) (d : Settings) : Type 0 where
+pub record IsToldByTrees (fault : Option OpenFault) (trees : Trees) (d : Settings) : Type 0 where
   pub schema : Schema
   pub lists : Lists (trees catalog_tree) schema
   pub told : IsJudgedOf fault (ShowsMeta (record { schema = schema; trees = trees })) d

@@ -19,7 +19,7 @@ use Rattle.gate_schema.specs.Rows.{Stands, Stored}
 use Rattle.gate_schema.specs.Schema.{gate_schema}
 use Rattle.gate_schema.proofs.Statements.{Asks}
 use Rattle.gate_found_rows.specs.Finds.{Finds, IsPlainQuery, OnlyReads, Stays}
-use Rattle.gate_found_rows.specs.Reads.{IsOnlyRead, IsShown}
+use Rattle.gate_found_rows.specs.Reads.{IsOnlyRead, IsStoredIn}
 use Rattle.gate_found_rows.proofs.SilentLemmas.{plain_only_reads}
 use Rattle.gate_found_rows.proofs.StayLemmas.{stays_then}
 
@@ -42,7 +42,7 @@ only_read_then a b c p q = record {
 }
 
 -- what a connection shows, it shows after a read
-pub shown_still : (old new : State) (b : Stored) → Stays old new → (IsTrue old.is_open → IsShown old b) → IsTrue new.is_open → IsShown new b
+pub shown_still : (old new : State) (b : Stored) → Stays old new → (IsTrue old.is_open → IsStoredIn old b) → IsTrue new.is_open → IsStoredIn new b
 shown_still old new b stays shows up =
     let was = shows (stays.was_open up) in
     record {

@@ -17,7 +17,7 @@ use Rattle.gate_types.specs.declared.rows.ReportRow.{ReportRow}
 use Rattle.gate_book_trait.specs.Reads.{items_between}
 use Rattle.gate_book_trait.specs.declared.rows.QueuedItem.{QueuedItem}
 use Rattle.gate_schema.specs.Rows.{ItemRow, JobRow, QueueRow, Stored, build_key, change_key, item_key}
-use Rattle.gate_schema.specs.Shown.{needs_it}
+use Rattle.gate_schema.specs.Shown.{needs_among}
 use Rattle.gate_rows.specs.Matches.{items_of, landings_of, reports_of}
 
 -- ---- items
@@ -27,17 +27,17 @@ abbrev pub stored_item_at : Stored → ℕ → Option Item
 stored_item_at b serial = option_map (λ (r : ItemRow). r.item) (find (λ (r : ItemRow). item_key r == serial) b.items)
 
 -- an item, with its queue's name
-abbrev pub queued : ItemRow → QueuedItem
-queued r = record { queue = r.queue; item = r.item }
+abbrev pub queued_item_of : ItemRow → QueuedItem
+queued_item_of r = record { queue = r.queue; item = r.item }
 
 -- the item of a change, with its queue's name
 abbrev pub stored_queued_of : Stored → ℕ → Option QueuedItem
-stored_queued_of b n = option_map queued (find (λ (r : ItemRow). r.item.change == n) b.items)
+stored_queued_of b n = option_map queued_item_of (find (λ (r : ItemRow). r.item.change == n) b.items)
 
 -- the items of a queue above a serial whose change needs this one
 abbrev pub stored_items_needing : Stored → List ℕ → ℕ → ℕ → List Item
 stored_items_needing b name n serial =
-    filter (λ (i : Item). nat_lt serial i.serial && needs_it b.needs n i.change) (items_of name b.items)
+    filter (λ (i : Item). nat_lt serial i.serial && needs_among b.needs n i.change) (items_of name b.items)
 
 -- ---- plans
 
@@ -84,15 +84,15 @@ abbrev pub ready_rows : List ChangeRow → List Ready
 ready_rows rows = flat_map ready_row rows
 
 -- these are the changes that are ready, in order of approval
-pub record AreReady (b : Stored) (found : List Ready) : Type 0 where
+pub record AreReadyByApproval (b : Stored) (found : List Ready) : Type 0 where
   pub are : IsPermutation found (ready_rows b.changes)
   pub rise : AllPairs (λ (r s : Ready). r.approval < s.approval) found
 
 -- these are the changes that are ready and need this one, in order of approval
 pub record AreReadyNeeding (b : Stored) (n : ℕ) (found : List Ready) : Type 0 where
   pub ready : List Ready
-  pub are_ready : AreReady b ready
-  pub need_it : found ≡ filter (λ (r : Ready). needs_it b.needs n r.change) ready
+  pub are_ready : AreReadyByApproval b ready
+  pub need_it : found ≡ filter (λ (r : Ready). needs_among b.needs n r.change) ready
 
 -- ---- builds
 

@@ -9,13 +9,13 @@ use Rattle.gate_found_rows.specs.Finds.{Stays}
 use Rattle.gate_found_rows.specs.Whole.{IsWhole}
 
 -- the connection is on the gate's schema, and its tables hold this
-pub record IsShown (s : State) (b : Stored) : Type 0 where
+pub record IsStoredIn (s : State) (b : Stored) : Type 0 where
   pub schema_is : s.now.schema ≡ gate_schema
   pub stands : Stands s.now.trees b
 
 -- while the connection answers at all, its tables hold this
 abbrev pub Shows : State → Stored → Type 0
-Shows s b = IsTrue s.is_open → IsShown s b
+Shows s b = IsTrue s.is_open → IsStoredIn s b
 
 -- where the disk has returned what was written, and the rows are in form, what is found is so of what the tables
 -- hold, and no fault blames a row

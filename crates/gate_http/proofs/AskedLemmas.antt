@@ -10,7 +10,7 @@ use Rattle.gate_types.specs.declared.deliveries.Refusal.TheVariants as refusal
 use Rattle.gate_types.specs.BuildText.{build_text}
 use Rattle.gate_http.specs.declared.respond.AnswerIfAny.{AnswerIfAny}
 use Rattle.gate_http.specs.declared.respond.AnswerIfAny.TheVariants as told
-use Rattle.gate_http.specs.Asked.{is_failure}
+use Rattle.gate_http.specs.Asked.{tells_unavailable}
 use Rattle.gate_http.specs.Answer.{answer_found, answer_known, told_item}
 
 -- what is told, by its mark
@@ -19,7 +19,7 @@ marked u t = if u then told.Answer (Refused refusal.Unavailable) else t
 
 -- this is told, unless `unavailable` is
 abbrev pub Tells : AnswerIfAny → AnswerIfAny → Type 0
-Tells t said = t ≡ marked (is_failure t) said
+Tells t said = t ≡ marked (tells_unavailable t) said
 
 -- a text that was shown
 pub shown_is : {T : Type 0} (bytes : T → List ℕ) (r : Result T Refusal) (a : Answer) (text : List ℕ)

@@ -37,7 +37,7 @@ use Rattle.gate_http.specs.Way.{Way, silence, refusal, question, stream, Request
 use Rattle.gate_http.specs.Answer.{calls_made, gate_after, is_503}
 use Rattle.gate_http.specs.Serving.{CrashLeaves, Serves, ServesStream, ServesBy}
 use Rattle.gate_http.specs.RequestFaults.{request_fault_text}
-use Rattle.gate_http.specs.Connections.{CalledOver, fault_line, fault_lines, AreTold}
+use Rattle.gate_http.specs.Connections.{CalledOver, fault_line, fault_lines, FaultsAreTold}
 
 -- ---- calls
 
@@ -235,7 +235,7 @@ broke_off Why (Ok s) (Err fault.NoMemory) why write is = cc
 module _ {T : Type 0} (held : T → Option (List ℕ)) where
   -- faults, and then one more
   both_told : (old mid new : Tap T) (faults : List RequestFault) (f : RequestFault) → has_failed mid ≡ false
-      → AreTold held old mid faults → AreTold held mid new (f ∷ []) → AreTold held old new (faults ++ f ∷ [])
+      → FaultsAreTold held old mid faults → FaultsAreTold held mid new (f ∷ []) → FaultsAreTold held old new (faults ++ f ∷ [])
   both_told old mid new faults f unfailed first next =
       let joined = sym (flat_map-append (λ g. fault_line (request_fault_text g)) faults (f ∷ [])) in record {
         whole = λ e. subst (Took held old new) joined (Appends-trans (held (inside old)) (held (inside mid))
@@ -246,14 +246,14 @@ module _ {T : Type 0} (held : T → Option (List ℕ)) where
 
   -- at most so many faults were told
   abbrev pub Tells : ℕ → Tap T → Tap T → Type 0
-  Tells n old new = (faults : List RequestFault) × (length faults ≤ n) × AreTold held old new faults
+  Tells n old new = (faults : List RequestFault) × (length faults ≤ n) × FaultsAreTold held old new faults
 
   -- one connection more, without a fault
   pub told_still : (n : ℕ) (old new : Tap T) → Tells n old new → Tells (n + 1) old new
   told_still n old new h = (h.0, omega (arith, h.1), h.2)
 
   told_by : (n : ℕ) (old mid new : Tap T) (f : RequestFault) (failed : Bool) → has_failed mid ≡ failed → Tells n old mid
-      → (has_failed mid ≡ false → AreTold held mid new (f ∷ [])) → (has_failed mid ≡ true → new ≡ mid)
+      → (has_failed mid ≡ false → FaultsAreTold held mid new (f ∷ [])) → (has_failed mid ≡ true → new ≡ mid)
       → Tells (n + 1) old new
   told_by n old mid new f false is h told silent = (
     h.0 ++ f ∷ [],
@@ -265,6 +265,6 @@ module _ {T : Type 0} (held : T → Option (List ℕ)) where
 
   -- one connection more, with a fault
   pub told_on : (n : ℕ) (old mid new : Tap T) (f : RequestFault) → Tells n old mid
-      → (has_failed mid ≡ false → AreTold held mid new (f ∷ [])) → (has_failed mid ≡ true → new ≡ mid)
+      → (has_failed mid ≡ false → FaultsAreTold held mid new (f ∷ [])) → (has_failed mid ≡ true → new ≡ mid)
       → Tells (n + 1) old new
   told_on n old mid new f h told silent = told_by n old mid new f (has_failed mid) refl h told silent

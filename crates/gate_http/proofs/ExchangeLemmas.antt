@@ -18,7 +18,7 @@ use Rattle.gate_http.specs.declared.request.Wanted.TheVariants as wanted
 use Rattle.gate_http.specs.Asked.{delivery}
 use Rattle.gate_http.specs.Head.{Front, empty, cut, too_large, whole, front_of, head_limit}
 use Rattle.gate_http.specs.Way.{Decided, refused, posted, decided, Way, silence, refusal, question, way_on, way_from}
-use Rattle.gate_http.specs.Way.{body_on, taken_from, Finds, FindsIn}
+use Rattle.gate_http.specs.Way.{body_on, taken_from, FindsHead, FindsIn}
 use Rattle.gate_http.specs.Exchange.{IsKnown, IsUnfinished, Waits, OfRead}
 use Rattle.gate_http.specs.Parts.{HeadComes, BodyComes, read_by}
 use Rattle.gate_http.proofs.HeadLemmas.{begins_empty}
@@ -75,7 +75,7 @@ read_too_much from left bytes h =
 
 -- this is decided of a head
 abbrev pub Decides : List ℕ → Decided → Type 0
-Decides head d = (found : Option RequestHead) × Finds head found × (d ≡ decided head found)
+Decides head d = (found : Option RequestHead) × FindsHead head found × (d ≡ decided head found)
 
 -- an input with a head
 read_whole : (from left : Option (List ℕ)) (head rest : List ℕ) (d : Decided) → IsKnown from (head ++ rest)

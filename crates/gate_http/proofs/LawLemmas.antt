@@ -11,11 +11,11 @@ use Rattle.gate_http.specs.declared.fault.HttpFault.{HttpFault}
 use Rattle.gate_http.specs.declared.fault.HttpFault.TheVariants as fault
 use Rattle.gate_http.specs.Asked.{Asked, delivery}
 use Rattle.gate_http.specs.Head.{Front, empty, cut, too_large, whole, front_of, front_with, head_from, head_limit}
-use Rattle.gate_http.specs.Way.{Finds, Decided, refused, posted, shown, recalled, decided, way_on, way_from, silence}
+use Rattle.gate_http.specs.Way.{FindsHead, Decided, refused, posted, shown, recalled, decided, way_on, way_from, silence}
 use Rattle.gate_http.specs.Way.{refusal, question}
 use Rattle.gate_http.specs.Laws.{FoundOnce, FewLinesFit, SilenceIsForNothing}
 
-found_one : (head : List ℕ) (a b : Option RequestHead) → Finds head a → Finds head b → a ≡ b
+found_one : (head : List ℕ) (a b : Option RequestHead) → FindsHead head a → FindsHead head b → a ≡ b
 found_one head None None f h = refl
 found_one head None (Some k) f h = absurd (f k h)
 found_one head (Some k) None f h = absurd (h k f)

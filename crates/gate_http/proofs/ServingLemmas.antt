@@ -25,7 +25,7 @@ use Rattle.gate_http.specs.declared.respond.AnswerIfAny.TheVariants as told
 use Rattle.gate_http.specs.declared.response.Form.{Form}
 use Rattle.gate_http.specs.declared.served.Served.{Served}
 use Rattle.gate_http.specs.declared.served.Served.TheVariants.{Answered as AnsweredBy}
-use Rattle.gate_http.specs.Asked.{Asked, delivery, media_of, told_status, is_failure, Streamed}
+use Rattle.gate_http.specs.Asked.{Asked, delivery, media_of, told_status, tells_unavailable, Streamed}
 use Rattle.gate_http.specs.Response.{fault_in, told_in, stream_in, failure_in}
 use Rattle.gate_http.specs.Way.{Way, silence, refusal as refusing, question, stream, Request, way_of}
 use Rattle.gate_http.specs.Exchange.{IsRequestRead, OfRead, Comes, Recalled, recited, missing, failed, OfLines}
@@ -197,7 +197,7 @@ module _ {B : Type 0} (trusted : B → Type 0) (holds : B → Settings → Conte
 
   -- this is told of the gate over a content
   abbrev IsTold : Settings → Content → Asked → AnswerIfAny → Type 0
-  IsTold c x asked t = t ≡ answer_to (is_failure t) (record { settings = c; content = x }) asked
+  IsTold c x asked t = t ≡ answer_to (tells_unavailable t) (record { settings = c; content = x }) asked
 
   -- to what only reads
   pub responds_kept : (old new : Gate B) (asked : Asked) (t : AnswerIfAny) → ((u : Bool) → calls_asked u asked ≡ [])
@@ -205,7 +205,7 @@ module _ {B : Type 0} (trusted : B → Type 0) (holds : B → Settings → Conte
       → OfGate trusted holds old new (λ x. IsTold (settings_of old) x asked t)
       → Responds trusted holds leaves old asked t new
   responds_kept old new asked a none settings kept answered =
-      let u = is_failure a in
+      let u = tells_unavailable a in
       record {
         answers = record {
           settings = settings;
@@ -227,9 +227,9 @@ module _ {B : Type 0} (trusted : B → Type 0) (holds : B → Settings → Conte
 
   -- to what is told without the book
   pub responds_unmoved : (old : Gate B) (asked : Asked) (t : AnswerIfAny) → ((u : Bool) → calls_asked u asked ≡ [])
-      → ((g : Gated) → t ≡ answer_to (is_failure t) g asked) → Responds trusted holds leaves old asked t old
+      → ((g : Gated) → t ≡ answer_to (tells_unavailable t) g asked) → Responds trusted holds leaves old asked t old
   responds_unmoved old asked t none at =
-      let u = is_failure t in
+      let u = tells_unavailable t in
       record {
         answers = stands old _ (λ g. (at g, ap (gate_after g) (sym (none u))));
         crash = λ t x held lawful.
@@ -249,7 +249,7 @@ module _ {B : Type 0} (trusted : B → Type 0) (holds : B → Settings → Conte
   }
 
   -- the status of `unavailable` is no other answer's
-  by_status : (t : AnswerIfAny) → (told_status t == 503) ≡ is_failure t
+  by_status : (t : AnswerIfAny) → (told_status t == 503) ≡ tells_unavailable t
   by_status told.NoItem = refl
   by_status (told.Answer (Said text)) = refl
   by_status (told.Answer (Refused refusal.BadJson)) = refl
@@ -269,8 +269,8 @@ module _ {B : Type 0} (trusted : B → Type 0) (holds : B → Settings → Conte
   by_status (told.Answer (Refused refusal.Unavailable)) = refl
 
   -- an answer that tells of it
-  told_by : (g after : Gated) (asked : Asked) (t : AnswerIfAny) (u : Bool) → u ≡ is_failure t
-      → (t ≡ answer_to (is_failure t) g asked) × (after ≡ gate_after g (calls_asked (is_failure t) asked))
+  told_by : (g after : Gated) (asked : Asked) (t : AnswerIfAny) (u : Bool) → u ≡ tells_unavailable t
+      → (t ≡ answer_to (tells_unavailable t) g asked) × (after ≡ gate_after g (calls_asked (tells_unavailable t) asked))
       → (t ≡ answer_to u g asked) × (after ≡ gate_after g (calls_asked u asked))
   told_by g after asked t u e h =
       subst (λ v. (t ≡ answer_to v g asked) × (after ≡ gate_after g (calls_asked v asked))) (sym e) h
@@ -280,7 +280,7 @@ module _ {B : Type 0} (trusted : B → Type 0) (holds : B → Settings → Conte
       → Responds trusted holds leaves old asked t new → served ≡ AnsweredBy (told_status t)
       → Serves trusted holds leaves form old new (question asked) served (told_in form (media_of asked) t)
   serves_question form asked old new served a r status =
-      let e : is_503 served ≡ is_failure a = ap is_503 status ∙ by_status a in
+      let e : is_503 served ≡ tells_unavailable a = ap is_503 status ∙ by_status a in
       record {
         answers = record {
           settings = r.answers.settings;

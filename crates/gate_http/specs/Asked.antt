@@ -73,6 +73,6 @@ told_text (told.Answer a) = answer_text a
 told_text told.NoItem = fault_text fault.NoItem
 
 -- whether it is `unavailable`
-abbrev pub is_failure : AnswerIfAny → Bool
-is_failure (told.Answer a) = is_unavailable a
-is_failure told.NoItem = false
+abbrev pub tells_unavailable : AnswerIfAny → Bool
+tells_unavailable (told.Answer a) = is_unavailable a
+tells_unavailable told.NoItem = false

@@ -33,7 +33,7 @@ abbrev pub fault_lines : List RequestFault → List ℕ
 fault_lines faults = flat_map (λ f. fault_line (request_fault_text f)) faults
 
 -- faults were told by a line each; of the lines a writer that failed took a beginning
-pub record AreTold {T : Type 0} (held : T → Option (List ℕ)) (old new : Tap T) (faults : List RequestFault) :
+pub record FaultsAreTold {T : Type 0} (held : T → Option (List ℕ)) (old new : Tap T) (faults : List RequestFault) :
     Type 0 where
   pub whole : has_failed new ≡ false → Took held old new (fault_lines faults)
   pub cut : has_failed new ≡ true → TookFront held old new (fault_lines faults)

@@ -62,15 +62,15 @@ abbrev pub OfLines : Form → (List ℕ → Type 0) → Option (List ℕ) → Ty
 OfLines f Takes text = HasText (λ t. Takes (front_in f ++ t)) text
 
 -- what a fault leaves of a writer: it has failed at `Write` alone, and nothing was written before a first byte
-abbrev pub StopsBy : {W : Type 0} → Tap W → Tap W → StreamFault → Type 0
-StopsBy old new stopped.Missing = new ≡ old
-StopsBy old new stopped.Unavailable = new ≡ old
-StopsBy old new stopped.Broken = has_failed new ≡ false
-StopsBy old new stopped.Write = has_failed new ≡ true
+abbrev pub StopsStreamBy : {W : Type 0} → Tap W → Tap W → StreamFault → Type 0
+StopsStreamBy old new stopped.Missing = new ≡ old
+StopsStreamBy old new stopped.Unavailable = new ≡ old
+StopsStreamBy old new stopped.Broken = has_failed new ≡ false
+StopsStreamBy old new stopped.Write = has_failed new ≡ true
 
 -- a writer has not failed where all lines are written, or is left by a fault so
-abbrev pub Stops : {W : Type 0} → Tap W → Tap W → Result (Unit {0}) StreamFault → Type 0
-Stops old new result = MatchResult result (λ _. has_failed new ≡ false) (StopsBy old new)
+abbrev pub StopsStream : {W : Type 0} → Tap W → Tap W → Result (Unit {0}) StreamFault → Type 0
+StopsStream old new result = MatchResult result (λ _. has_failed new ≡ false) (StopsStreamBy old new)
 
 -- ---- what is written
 

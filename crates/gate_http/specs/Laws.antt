@@ -13,7 +13,7 @@ use Rattle.gate_http.specs.declared.response.Form.TheVariants as form
 use Rattle.gate_http.specs.Asked.{page, delivery, whole_history, all_deliveries}
 use Rattle.gate_http.specs.Head.{Front, front_of, whole}
 use Rattle.gate_http.specs.Routes.{route_of, path_of, parameter_of, queue_in, place_in}
-use Rattle.gate_http.specs.Way.{FindsIn, Finds, way, silence, question, refusal, taken}
+use Rattle.gate_http.specs.Way.{FindsIn, FindsHead, way, silence, question, refusal, taken}
 use Rattle.gate_http.specs.Response.{fault_in, told_in, stream_in}
 
 -- two request heads that are found are one
@@ -81,7 +81,7 @@ example_request = record {
 abbrev pub ExampleIsRead : Type 0
 ExampleIsRead =
     (front_of (example_head ++ codes "rest") ≡ whole example_head (codes "rest"))
-    × Finds example_head (Some example_request)
+    × FindsHead example_head (Some example_request)
     × (way (example_head ++ codes "rest") (Some example_request) ≡ question (page pages.Status))
     × (taken (example_head ++ codes "rest") (Some example_request) ≡ example_head)
 
@@ -104,7 +104,7 @@ posted_request = record {
 -- the length is read, and what follows the body is left; a body that is too short is cut
 abbrev pub PostIsRead : Type 0
 PostIsRead =
-    Finds posted_head (Some posted_request)
+    FindsHead posted_head (Some posted_request)
     × (way (posted_head ++ codes "{}rest") (Some posted_request) ≡ question (delivery door.Forge (codes "{}")))
     × (taken (posted_head ++ codes "{}rest") (Some posted_request) ≡ posted_head ++ codes "{}")
     × (way (posted_head ++ codes "{") (Some posted_request) ≡ refusal fault.Cut extent.Whole)

@@ -10,7 +10,7 @@ use Rattle.gate_http.specs.declared.respond.AnswerIfAny.{AnswerIfAny}
 use Rattle.gate_http.specs.declared.response.Form.{Form}
 use Rattle.gate_http.specs.declared.response.Form.TheVariants as form
 use Rattle.gate_http.specs.declared.served.Served.{Served}
-use Rattle.gate_http.specs.Asked.{Asked, Streamed, is_failure}
+use Rattle.gate_http.specs.Asked.{Asked, Streamed, tells_unavailable}
 use Rattle.gate_http.specs.Way.{Way, stream}
 use Rattle.gate_http.specs.Got.{way_got}
 use Rattle.gate_http.specs.Answer.{AnswersBy, answer_to, calls_asked, calls_made, gate_after, stream_of, is_503}
@@ -31,9 +31,9 @@ pub record Responds {B : Type 0} (trusted : B → Type 0) (holds : B → Setting
     (leaves : B → Settings → List Content → Type 0) (old : Gate B) (asked : Asked) (t : AnswerIfAny) (new : Gate B)
     : Type 0 where
   pub answers : Goes trusted holds old new (λ g after.
-      (t ≡ answer_to (is_failure t) g asked) × (after ≡ gate_after g (calls_asked (is_failure t) asked)))
+      (t ≡ answer_to (tells_unavailable t) g asked) × (after ≡ gate_after g (calls_asked (tells_unavailable t) asked)))
   pub crash : OfGate trusted holds old new (λ x.
-      GateLeaves leaves old new x (calls_asked (is_failure t) asked))
+      GateLeaves leaves old new x (calls_asked (tells_unavailable t) asked))
 
 -- a gate was asked for lines: what is so of them in the content, which stays; and what a crash leaves
 pub record Recalls {B : Type 0} (trusted : B → Type 0) (holds : B → Settings → Content → Type 0)

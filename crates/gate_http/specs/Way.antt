@@ -26,9 +26,9 @@ abbrev pub IsRequest : List ℕ → RequestHead → Type 0
 IsRequest head h = (rest : List ℕ) × ReadsRequest head h rest × (length h.fields ≤ 64)
 
 -- the request head that the bytes are, if they are one: there is never more than one
-abbrev pub Finds : List ℕ → Option RequestHead → Type 0
-Finds head None = (h : RequestHead) → IsRequest head h → ⊥
-Finds head (Some h) = IsRequest head h
+abbrev pub FindsHead : List ℕ → Option RequestHead → Type 0
+FindsHead head None = (h : RequestHead) → IsRequest head h → ⊥
+FindsHead head (Some h) = IsRequest head h
 
 -- what a head asks for: an answer of HTTP's own, maybe without its body; a delivery of so many bytes; what is told at
 -- once; what is written line by line
@@ -139,7 +139,7 @@ abbrev pub FindsIn : Front → Option RequestHead → Type 0
 FindsIn empty found = found ≡ None
 FindsIn cut found = found ≡ None
 FindsIn too_large found = found ≡ None
-FindsIn (whole head rest) found = Finds head found
+FindsIn (whole head rest) found = FindsHead head found
 
 -- an input, and the request head that its head is, if it is one
 pub record Request : Type 0 where

@@ -11,7 +11,7 @@ ghost use Rattle.gate_http.specs.Asked.{Streamed};
 ghost use Rattle.gate_http.specs.Way.{Request, way_of, stream};
 ghost use Rattle.gate_http.specs.Exchange.{IsRequestRead};
 ghost use Rattle.gate_http.specs.Serving.{ServesBy};
-ghost use Rattle.gate_http.specs.Connections.{CalledOver, fault_line, AreTold};
+ghost use Rattle.gate_http.specs.Connections.{CalledOver, fault_line, FaultsAreTold};
 
 use crate::engine::answer_routed;
 use crate::request_fault::RequestFault;
@@ -61,7 +61,7 @@ pub fn write_fault<E: Write>(text: &str, errors: &mut Tap<E>) -> Result<(), Fail
 
 /// Tells of a fault, unless an earlier one could not be told.
 fn tell<E: Write>(fault: RequestFault, errors: &mut Tap<E>)
-    ensures told { has_failed errors.old ≡ false → AreTold E.contents errors.old errors.new (fault ∷ []) }
+    ensures told { has_failed errors.old ≡ false → FaultsAreTold E.contents errors.old errors.new (fault ∷ []) }
     ensures silent { has_failed errors.old ≡ true → errors.new ≡ errors.old }
 {
     if !errors.failed() {
@@ -198,7 +198,7 @@ where
     ensures gate { Goes B.IsTrusted B.Holds gate.old gate.new
         (CalledOver B.LeavesOneOf count gate.old gate.new) }
     ensures told { (faults : List RequestFault) × (length faults ≤ count)
-        × AreTold E.contents errors.old errors.new faults }
+        × FaultsAreTold E.contents errors.old errors.new faults }
 {
     for _ in 0..count {
         let Ok((stream, _)) = listener.accept() else {
@@ -233,7 +233,7 @@ where
     ensures gate { Goes B.IsTrusted B.Holds gate.old gate.new
         (CalledOver B.LeavesOneOf count gate.old gate.new) }
     ensures told { (faults : List RequestFault) × (length faults ≤ count)
-        × AreTold E.contents errors.old errors.new faults }
+        × FaultsAreTold E.contents errors.old errors.new faults }
 {
     // made once, so that no request makes it again
     let shared = router(alloc).ok();

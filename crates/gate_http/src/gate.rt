@@ -4,7 +4,7 @@ ghost use Rattle.gate_types.specs.Tap.{has_failed};
 ghost use Rattle.gate_core.specs.Holding.{IsKeptGate, OfBook, settings_of};
 ghost use Rattle.gate_http.specs.Answer.{build_number, change_number, item_serial, told_item};
 ghost use Rattle.gate_http.specs.Asked.{streamed_by};
-ghost use Rattle.gate_http.specs.Exchange.{Stops};
+ghost use Rattle.gate_http.specs.Exchange.{StopsStream};
 ghost use Rattle.gate_http.specs.Parts.{lines_of_history, lines_of_feed, WritesLines};
 
 use crate::digits::number_up_to;
@@ -113,7 +113,7 @@ fn write_lines<B: Archive, W: Write>(
     requires { has_failed w.old ≡ false }
     ensures written { OfBook B.IsTrusted B.Holds gate.old gate.new (λ x.
         WritesLines x (streamed_by wanted.entry) front.now W.contents w.old w.new result) }
-    ensures stops { Stops w.old w.new result }
+    ensures stops { StopsStream w.old w.new result }
     ensures kept { IsKeptGate B.IsTrusted B.Holds B.LeavesOneOf gate.old gate.new }
     ensures settings { settings_of gate.new ≡ settings_of gate.old }
 {

@@ -4,7 +4,7 @@ ghost use Rattle.std.specs.Str.{bytes_eq};
 ghost use Rattle.httparse.specs.Grammar.{RequestHead};
 ghost use Rattle.httparse.specs.Spans.{IsRequestAt, IsRequestWithin};
 ghost use Rattle.gate_http.specs.Routes.{routes};
-ghost use Rattle.gate_http.specs.Way.{IsRequest, Finds, decided, decided_of, posted_of, read_at, extent_of};
+ghost use Rattle.gate_http.specs.Way.{IsRequest, FindsHead, decided, decided_of, posted_of, read_at, extent_of};
 ghost use Rattle.gate_http.specs.Parts.{view, read_by, read_or, reading};
 
 use crate::fault::HttpFault;
@@ -179,7 +179,7 @@ fn line_ends(head: &[u8]) -> usize
 /// What a head asks for.
 pub(crate) fn decide<'a>(router: &Router<Route>, head: &'a [u8]) -> Decision<'a>
     requires { router.now ≡ routes }
-    ensures { (found : Option RequestHead) × Finds head.now found × (view result ≡ decided head.now found) }
+    ensures { (found : Option RequestHead) × FindsHead head.now found × (view result ≡ decided head.now found) }
 {
     let mut headers = [EMPTY_HEADER_SPAN; FIELDS];
     let found = parse(head, &mut headers);

@@ -6,7 +6,7 @@ ghost use Rattle.gate_http.specs.declared.respond.AnswerIfAny.{AnswerIfAny};
 ghost use Rattle.gate_http.specs.Asked.{Asked, delivery, page, build, change, item, answer_status, told_status};
 ghost use Rattle.gate_http.specs.Asked.{told_text};
 ghost use Rattle.gate_http.specs.Asked.{Streamed, streamed_by};
-ghost use Rattle.gate_http.specs.Exchange.{HasText, Stops};
+ghost use Rattle.gate_http.specs.Exchange.{HasText, StopsStream};
 ghost use Rattle.gate_types.specs.Limits.{most_bytes};
 
 use crate::fault::HttpFault;
@@ -188,5 +188,5 @@ pub trait Respond {
             (HasText (λ text. TookFront W.contents w.old w.new (front.now ++ text))) self.new }
         ensures write { IsErrOf result StreamFault.Write → recalls self.old (streamed_by wanted.entry)
             (HasText (λ text. TookFront W.contents w.old w.new (front.now ++ text))) self.new }
-        ensures stops { Stops w.old w.new result };
+        ensures stops { StopsStream w.old w.new result };
 }

@@ -17,7 +17,7 @@ use Rattle.gate_schema.specs.Shown.{item_shown}
 use Rattle.gate_schema.proofs.Statements.{key_is, no_limit}
 use Rattle.gate_schema.proofs.ValueLemmas.{equal_numbers, equal_texts}
 use Rattle.gate_found_rows.specs.Finds.{Finds}
-use Rattle.gate_found_rows.specs.Reads.{IsShown}
+use Rattle.gate_found_rows.specs.Reads.{IsStoredIn}
 use Rattle.gate_found_rows.specs.Whole.{IsWhole, is_item_row_in_form}
 use Rattle.gate_item_queries.proofs.ItemTexts.{item_is, item_names, item_query, item_sql, item_terms, items_is}
 use Rattle.gate_item_queries.proofs.ItemTexts.{items_query, items_sql, queued_is, queued_query, queued_sql}
@@ -36,7 +36,7 @@ InForm i = is_item_row_in_form i ≡ true
 -- ---- all items of a queue
 
 -- the read of the items of a queue finds those
-pub items_found : (s : State) (b : Stored) (name : List ℕ) (rows : List Row) → IsShown s b → IsWhole b → Finds items_sql (Words name ∷ []) s.now rows →
+pub items_found : (s : State) (b : Stored) (name : List ℕ) (rows : List Row) → IsStoredIn s b → IsWhole b → Finds items_sql (Words name ∷ []) s.now rows →
     ShowsItems rows (filter (λ i. same_name i.queue name) b.items)
 items_found s b name rows shown whole finds =
     let params = Words name ∷ [] in
@@ -50,7 +50,7 @@ items_found s b name rows shown whole finds =
 -- ---- the item of a serial
 
 -- the read of the item of a serial finds it
-pub item_found : (s : State) (b : Stored) (n : ℕ) (rows : List Row) → IsShown s b → IsWhole b → Finds item_sql (Int (pos n) ∷ []) s.now rows →
+pub item_found : (s : State) (b : Stored) (n : ℕ) (rows : List Row) → IsStoredIn s b → IsWhole b → Finds item_sql (Int (pos n) ∷ []) s.now rows →
     ShowsItems rows (filter (λ i. eqb (item_key i) n) b.items)
 item_found s b n rows shown whole finds =
     let params = Int (pos n) ∷ [] in
@@ -72,7 +72,7 @@ one_of n is differ = one_passes (λ (i : ItemRow). eqb i.item.change n) is (λ k
     both a b p q = grind (arith, nat_tests)
 
 -- the read of the item of a change finds it
-pub queued_found : (s : State) (b : Stored) (n : ℕ) (rows : List Row) → IsShown s b → IsWhole b → Finds queued_sql (Int (pos n) ∷ []) s.now rows →
+pub queued_found : (s : State) (b : Stored) (n : ℕ) (rows : List Row) → IsStoredIn s b → IsWhole b → Finds queued_sql (Int (pos n) ∷ []) s.now rows →
     ShowsItems rows (filter (λ (i : ItemRow). eqb i.item.change n) b.items)
 queued_found s b n rows shown whole finds =
     let params = Int (pos n) ∷ [] in

@@ -18,11 +18,11 @@ use Rattle.sqlite_tied.proofs.RuleLemmas.{and_true}
 use Rattle.sqlite_value.specs.declared.keys.Collation.{Collation}
 use Rattle.gate_types.specs.Names.{same_name}
 use Rattle.gate_schema.specs.Rows.{ItemRow, NeedRow, Stored, item_key, item_table_row, need_columns}
-use Rattle.gate_schema.specs.Shown.{item_shown, needs_it}
+use Rattle.gate_schema.specs.Shown.{item_shown, needs_among}
 use Rattle.gate_schema.proofs.ValueLemmas.{above_number, equal_numbers, equal_texts}
 use Rattle.gate_schema.proofs.DeleteLemmas.{filter_same_on}
 use Rattle.gate_found_rows.specs.Finds.{Finds}
-use Rattle.gate_found_rows.specs.Reads.{IsShown}
+use Rattle.gate_found_rows.specs.Reads.{IsStoredIn}
 use Rattle.gate_found_rows.specs.Shown.{number_shown}
 use Rattle.gate_found_rows.specs.Whole.{IsWhole}
 use Rattle.gate_found_rows.proofs.DistinctLemmas.{shows_once}
@@ -40,7 +40,7 @@ use Rattle.gate_found_rows.proofs.ReadLemmas.{answers}
 
 -- an item of a queue above a serial whose change needs another
 abbrev pub is_needing : Stored → List ℕ → ℕ → ℕ → ItemRow → Bool
-is_needing b name needed above i = same_name i.queue name && (ltb above i.item.serial && needs_it b.needs needed i.item.change)
+is_needing b name needed above i = same_name i.queue name && (ltb above i.item.serial && needs_among b.needs needed i.item.change)
 
 -- a need of the other by the change of an item of a queue above a serial
 abbrev is_need_of : List ℕ → ℕ → ℕ → NeedRow → ItemRow → Bool
@@ -95,7 +95,7 @@ module _ (b : Stored) (name : List ℕ) (needed above : ℕ) where
   shows_item r v n i tells is = subst (λ w. output (over_tables 9 11 needing_test needing_terms needing_order) (params_of name above needed ∷ r ∷ w ∷ []) ≡ made_of i) (sym is) refl
 
   -- the items that need the other, by rising serial
-  needing_shown : (s : State) (rows : List Row) → IsShown s b → Finds needing_sql (params_of name above needed) s.now rows
+  needing_shown : (s : State) (rows : List Row) → IsStoredIn s b → Finds needing_sql (params_of name above needed) s.now rows
       → rows ≡ map item_shown (filter (is_needing b name needed above) b.items)
   needing_shown s rows shown finds =
       shows_once (λ r n. drop 1 r ≡ need_columns n) (λ v i. v ≡ item_table_row i) 9 11 needing_test needing_terms (col 2 0) others (params_of name above needed)
@@ -110,11 +110,11 @@ module _ (b : Stored) (name : List ℕ) (needed above : ℕ) where
       (answers s needing_sql needing_query item_names (params_of name above needed) rows needing_is shown.schema_is finds)
 
 -- the read of the items whose changes need another finds those
-pub needing_found : (s : State) (b : Stored) (name : List ℕ) (needed above : ℕ) (rows : List Row) → IsShown s b → IsWhole b →
+pub needing_found : (s : State) (b : Stored) (name : List ℕ) (needed above : ℕ) (rows : List Row) → IsStoredIn s b → IsWhole b →
     Finds needing_sql (params_of name (capped above) needed) s.now rows → ShowsItems rows (filter (is_needing b name needed above) b.items)
 needing_found s b name needed above rows shown whole finds =
     let alike : filter (is_needing b name needed (capped above)) b.items ≡ filter (is_needing b name needed above) b.items =
-    filter_same_on _ _ b.items (all_so InForm _ (λ i form. ap (λ t. same_name i.queue name && (t && needs_it b.needs needed i.item.change)) (above_capped above i.item.serial (low i form))) b.items whole.items) in
+    filter_same_on _ _ b.items (all_so InForm _ (λ i form. ap (λ t. same_name i.queue name && (t && needs_among b.needs needed i.item.change)) (above_capped above i.item.serial (low i form))) b.items whole.items) in
     record {
       shown = needing_shown b name needed (capped above) s rows shown finds ∙ ap (map item_shown) alike;
       in_form = All-filter (is_needing b name needed above) InForm b.items whole.items;

@@ -25,7 +25,7 @@ use Rattle.gate_schema.proofs.ValueLemmas.{above_number, equal_texts}
 use Rattle.gate_schema.proofs.DeleteLemmas.{filter_same_on}
 use Rattle.gate_schema.proofs.Statements.{one_row}
 use Rattle.gate_found_rows.specs.Finds.{Finds}
-use Rattle.gate_found_rows.specs.Reads.{IsShown}
+use Rattle.gate_found_rows.specs.Reads.{IsStoredIn}
 use Rattle.gate_found_rows.specs.Whole.{IsWhole, is_item_row_in_form}
 use Rattle.gate_item_queries.proofs.ItemReads.{InForm, ShowsItems}
 use Rattle.gate_item_queries.proofs.ItemTexts.{item_names, item_terms, last_is, last_query, last_sql, last_test}
@@ -86,7 +86,7 @@ abbrev pub is_before : List ℕ → ℕ → ItemRow → Bool
 is_before name below i = same_name i.queue name && ltb i.item.serial below
 
 -- the read of the next item begins with it
-pub next_found : (s : State) (b : Stored) (name : List ℕ) (above : ℕ) (rows : List Row) → IsShown s b → IsWhole b →
+pub next_found : (s : State) (b : Stored) (name : List ℕ) (above : ℕ) (rows : List Row) → IsStoredIn s b → IsWhole b →
     Finds next_sql (Words name ∷ Int (pos (capped above)) ∷ []) s.now rows → Leads rows (slice_get (filter (is_next name above) b.items) 0)
 next_found s b name above rows shown whole finds =
     let to = capped above in
@@ -106,7 +106,7 @@ next_found s b name above rows shown whole finds =
     }
 
 -- the read of the next few items finds those
-pub several_found : (s : State) (b : Stored) (name : List ℕ) (above most : ℕ) (rows : List Row) → IsShown s b → IsWhole b →
+pub several_found : (s : State) (b : Stored) (name : List ℕ) (above most : ℕ) (rows : List Row) → IsStoredIn s b → IsWhole b →
     Finds several_sql (Words name ∷ Int (pos (capped above)) ∷ Int (pos most) ∷ []) s.now rows → ShowsItems rows (take most (filter (is_next name above) b.items))
 several_found s b name above most rows shown whole finds =
     let to = capped above in
@@ -122,7 +122,7 @@ several_found s b name above most rows shown whole finds =
     }
 
 -- the read of the last item begins with it
-pub last_found : (s : State) (b : Stored) (name : List ℕ) (below : ℕ) (rows : List Row) → IsShown s b → IsWhole b →
+pub last_found : (s : State) (b : Stored) (name : List ℕ) (below : ℕ) (rows : List Row) → IsStoredIn s b → IsWhole b →
     Finds last_sql (Words name ∷ Int (pos (capped below)) ∷ []) s.now rows → Leads rows (slice_get (reverse (filter (is_before name below) b.items)) 0)
 last_found s b name below rows shown whole finds =
     let to = capped below in

@@ -3,7 +3,7 @@ ghost use Rattle.std.specs.Prelude.{◌≡◌, ◌<◌, pos, min, IfOk, IfSome};
 ghost use Rattle.sqlite.specs.Held.{state};
 ghost use Rattle.sqlite.specs.Value.{owned};
 ghost use Rattle.sqlite.specs.declared.types.Value.TheVariants.{Int};
-ghost use Rattle.gate_book_trait.specs.Reads.{first_above, first_items_above, last_below};
+ghost use Rattle.gate_book_trait.specs.Reads.{first_above, first_items_above, last_item_below};
 ghost use Rattle.gate_rows.specs.Matches.{items_of};
 ghost use Rattle.gate_found_rows.specs.Asked.{stored_item_at, stored_items_needing, stored_queued_of};
 ghost use Rattle.gate_found_rows.specs.Reads.{IsOnlyRead, Opened, Tells};
@@ -111,7 +111,7 @@ pub fn last_item<S: Alter>(
     below: u64,
 ) -> Result<Option<Item>, BookFault>
     ensures found { Tells (state S.Store conn.old) (state S.Store conn.new) result (λ b.
-        last_below below (items_of queue.now b.items)) }
+        last_item_below below (items_of queue.now b.items)) }
     ensures falls { IfOk result (λ found. IfSome found (λ i. i.serial < below)) }
     ensures opened { Opened (state S.Store conn.old) (state S.Store conn.new) result }
     ensures only_reads { IsOnlyRead (state S.Store conn.old) (state S.Store conn.new) }

@@ -4,7 +4,7 @@ ghost use Rattle.std.specs.List.{AllPass};
 ghost use Rattle.gate_book_trait.specs.Reads.{Answers};
 ghost use Rattle.gate_schema.specs.Rows.{ItemRow};
 ghost use Rattle.gate_schema.specs.Shown.{item_shown};
-ghost use Rattle.gate_found_rows.specs.Asked.{queued};
+ghost use Rattle.gate_found_rows.specs.Asked.{queued_item_of};
 ghost use Rattle.gate_found_rows.specs.Whole.{is_item_row_in_form};
 
 use gate_book_trait::{BookFault, QueuedItem};
@@ -31,7 +31,8 @@ fn item_in(row: &Row) -> Result<Item, BookFault>
 
 /// The item of a row, and its queue's name.
 fn queued_in(row: &Row) -> Result<QueuedItem, BookFault>
-    ensures { (i : ItemRow) → row.now ≡ item_shown i → is_item_row_in_form i ≡ true → Answers (queued i) result }
+    ensures { (i : ItemRow) → row.now ≡ item_shown i → is_item_row_in_form i ≡ true →
+        Answers (queued_item_of i) result }
 {
     Ok(QueuedItem {
         queue: name_in(row, 1)?,
@@ -53,7 +54,7 @@ pub(crate) fn first_item(rows: &[Row]) -> Result<Option<Item>, BookFault>
 /// The item of the first row, and its queue's name, if there is one.
 pub(crate) fn first_queued(rows: &[Row]) -> Result<Option<QueuedItem>, BookFault>
     ensures { (is : List ItemRow) → rows.now ≡ map item_shown is → AllPass is_item_row_in_form is →
-        Answers (option_map queued (slice_get is 0)) result }
+        Answers (option_map queued_item_of (slice_get is 0)) result }
 {
     match rows {
         [] => Ok(None),

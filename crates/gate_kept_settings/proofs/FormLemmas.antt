@@ -13,7 +13,7 @@ use Rattle.gate_types.specs.Forms.{is_project_in_form, are_settings_in_form}
 use Rattle.gate_types.specs.Reading.{passing, value_of}
 use Rattle.gate_kept_settings.specs.Reading.{◌>>=◌, each, list_at, truth_at, text_at, name_at, path_name_at}
 use Rattle.gate_kept_settings.specs.Reading.{base_at, number_at, rule_at, flag_at, job_at, queue_at, project_at}
-use Rattle.gate_kept_settings.specs.Reading.{settings_at, said_by}
+use Rattle.gate_kept_settings.specs.Reading.{settings_at, kept_said_by}
 
 -- where something is said, all on the way to it was said
 said : {A B : Type 0} (o : Option A) (f : A → Option B) (b : B) → o >>= f ≡ Some b → (a : A) × (o ≡ Some a) × (f a ≡ Some b)
@@ -102,5 +102,5 @@ of_settings d c e =
     )
 
 -- so are settings that bytes say
-pub said_is_good : (bytes : List ℕ) (c : Settings) → said_by bytes ≡ Some c → (are_sound c ≡ true) × (are_settings_in_form c ≡ true)
+pub said_is_good : (bytes : List ℕ) (c : Settings) → kept_said_by bytes ≡ Some c → (are_sound c ≡ true) × (are_settings_in_form c ≡ true)
 said_is_good bytes c e = let (d, value, at) = said (value_of bytes) settings_at c e in of_settings d c at

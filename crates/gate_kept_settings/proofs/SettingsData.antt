@@ -25,7 +25,7 @@ use Rattle.gate_types.specs.Reading.{passing, value_of}
 use Rattle.gate_types.proofs.ReadingLemmas.{value_found}
 use Rattle.gate_kept_settings.specs.Reading.{list_of, each, ◌>>=◌, name_at, path_name_at, base_at, number_at}
 use Rattle.gate_kept_settings.specs.Reading.{said_or, pace_at, factor_at, flag_at, rule_at, job_at, queue_at}
-use Rattle.gate_kept_settings.specs.Reading.{project_at, settings_at, said_by}
+use Rattle.gate_kept_settings.specs.Reading.{project_at, settings_at, kept_said_by}
 use Rattle.gate_kept_settings.specs.Told.{SaysSettings, OneTextASetting}
 use Rattle.gate_kept_settings.proofs.ReadBack.{IsFit, AreFit, read_back, text_is_utf8}
 use Rattle.gate_kept_settings.proofs.Entries.{Entry, always, unless_default, present, fit_present, or_else, get_present}
@@ -317,7 +317,7 @@ settings_said c h sound =
 
 -- ---- the text of sound settings in form says them
 
-pub settings_found : (text : List ℕ) (c : Settings) → SaysSettings text c → said_by text ≡ Some c
+pub settings_found : (text : List ℕ) (c : Settings) → SaysSettings text c → kept_said_by text ≡ Some c
 settings_found text c h =
     let parts = good c h.sound h.in_form in
     let fit = settings_fit c parts in

@@ -23,10 +23,10 @@ abbrev pub ◌>>=◌ : {A B : Type 0} → Option A → (A → Option B) → Opti
 None >>= f = None
 
 -- a call gives what is said, seen by view, unless memory was refused
-abbrev pub Gives : {X Y : Type 0} → (X → Y) → Result X TextFault → Option Y → Type 0
-Gives view (Ok x) said = said ≡ Some (view x)
-Gives view (Err fault.NotSettings) said = said ≡ None
-Gives view (Err fault.NoMemory) said = ⊤
+abbrev pub GivesKept : {X Y : Type 0} → (X → Y) → Result X TextFault → Option Y → Type 0
+GivesKept view (Ok x) said = said ≡ Some (view x)
+GivesKept view (Err fault.NotSettings) said = said ≡ None
+GivesKept view (Err fault.NoMemory) said = ⊤
 
 -- the values of an array
 abbrev pub list_of : Items → List Data
@@ -122,5 +122,5 @@ settings_at d =
     passing are_sound (record { base = base; queues = queues; projects = projects })
 
 -- the settings that bytes say
-abbrev pub said_by : List ℕ → Option Settings
-said_by bytes = value_of bytes >>= settings_at
+abbrev pub kept_said_by : List ℕ → Option Settings
+kept_said_by bytes = value_of bytes >>= settings_at

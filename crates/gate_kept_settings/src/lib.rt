@@ -11,7 +11,7 @@ ghost use Rattle.std.specs.Prelude.{◌≡◌, MatchResult, IfOk};
 ghost use Rattle.gate_types.specs.Settings.{Settings};
 ghost use Rattle.gate_types.specs.Reading.{value_of};
 ghost use Rattle.serde_json.specs.View.{view};
-ghost use Rattle.gate_kept_settings.specs.Reading.{Gives, said_by};
+ghost use Rattle.gate_kept_settings.specs.Reading.{GivesKept, kept_said_by};
 ghost use Rattle.gate_kept_settings.specs.Told.{SaysSettings};
 
 mod fault;
@@ -27,7 +27,7 @@ use std::alloc::Global;
 
 /// The value of a text.
 fn parse(alloc: Global, text: &[u8]) -> Result<Value, TextFault>
-    ensures { Gives view result (value_of text.now) }
+    ensures { GivesKept view result (value_of text.now) }
 {
     match Value::from_slice(alloc, text) {
         Ok(value) => Ok(value),
@@ -43,7 +43,7 @@ fn parse(alloc: Global, text: &[u8]) -> Result<Value, TextFault>
 
 /// The settings that a text says at its members, whatever else it is.
 fn read_members(alloc: Global, text: &[u8]) -> Result<Config, TextFault>
-    ensures { Gives (λ c. c) result (said_by text.now) }
+    ensures { GivesKept (λ c. c) result (kept_said_by text.now) }
 {
     let value = parse(alloc, text)?;
     reading::settings_of(alloc, &value)

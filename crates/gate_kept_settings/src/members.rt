@@ -1,7 +1,7 @@
 //! The members of a JSON value, each read by its kind.
 ghost use Rattle.std.specs.Prelude.{Some, map, string_bytes};
 ghost use Rattle.serde_json.specs.View.{view};
-ghost use Rattle.gate_kept_settings.specs.Reading.{Gives, text_at, whole_at, truth_at, list_at, name_at};
+ghost use Rattle.gate_kept_settings.specs.Reading.{GivesKept, text_at, whole_at, truth_at, list_at, name_at};
 ghost use Rattle.gate_kept_settings.specs.Reading.{path_name_at, base_at, number_at, pace_at, factor_at, flag_at};
 
 use crate::fault::TextFault;
@@ -13,7 +13,7 @@ use serde_json::Value;
 use std::alloc::Global;
 
 fn text_of<'v>(value: &'v Value, key: &str) -> Result<&'v str, TextFault>
-    ensures { Gives (λ s. s.now) result (text_at key.now (view value.now)) }
+    ensures { GivesKept (λ s. s.now) result (text_at key.now (view value.now)) }
 {
     match value.get(key) {
         Some(member) => match member.as_str() {
@@ -25,7 +25,7 @@ fn text_of<'v>(value: &'v Value, key: &str) -> Result<&'v str, TextFault>
 }
 
 fn whole_of(value: &Value, key: &str) -> Result<u64, TextFault>
-    ensures { Gives (λ n. n) result (whole_at key.now (view value.now)) }
+    ensures { GivesKept (λ n. n) result (whole_at key.now (view value.now)) }
 {
     match value.get(key) {
         Some(member) => match member.as_u64() {
@@ -37,7 +37,7 @@ fn whole_of(value: &Value, key: &str) -> Result<u64, TextFault>
 }
 
 pub(crate) fn truth_of(value: &Value, key: &str) -> Result<bool, TextFault>
-    ensures { Gives (λ b. b) result (truth_at key.now (view value.now)) }
+    ensures { GivesKept (λ b. b) result (truth_at key.now (view value.now)) }
 {
     match value.get(key) {
         Some(member) => match member.as_bool() {
@@ -51,7 +51,7 @@ pub(crate) fn truth_of(value: &Value, key: &str) -> Result<bool, TextFault>
 /// The values of an array.
 #[tactic(auto, using(crate::proofs::SettingsData::list_of_items))]
 pub(crate) fn list_of<'v>(value: &'v Value, key: &str) -> Result<&'v [Value], TextFault>
-    ensures { Gives (λ values. map view values.now) result (list_at key.now (view value.now)) }
+    ensures { GivesKept (λ values. map view values.now) result (list_at key.now (view value.now)) }
 {
     match value.get(key) {
         Some(member) => match member.as_array() {
@@ -63,7 +63,7 @@ pub(crate) fn list_of<'v>(value: &'v Value, key: &str) -> Result<&'v [Value], Te
 }
 
 fn copy_of(alloc: Global, text: &str) -> Result<String, TextFault>
-    ensures { Gives string_bytes result (Some text.now) }
+    ensures { GivesKept string_bytes result (Some text.now) }
 {
     match String::from_str(alloc, text) {
         Ok(copy) => Ok(copy),
@@ -73,7 +73,7 @@ fn copy_of(alloc: Global, text: &str) -> Result<String, TextFault>
 
 #[tactic(auto, unfolding(crate::specs::Reading::name_at))]
 pub(crate) fn name_of(alloc: Global, value: &Value, key: &str) -> Result<Name, TextFault>
-    ensures { Gives (λ n. n) result (name_at key.now (view value.now)) }
+    ensures { GivesKept (λ n. n) result (name_at key.now (view value.now)) }
 {
     match Name::new(copy_of(alloc, text_of(value, key)?)?) {
         Some(name) => Ok(name),
@@ -83,7 +83,7 @@ pub(crate) fn name_of(alloc: Global, value: &Value, key: &str) -> Result<Name, T
 
 #[tactic(auto, unfolding(crate::specs::Reading::path_name_at))]
 pub(crate) fn path_name_of(alloc: Global, value: &Value, key: &str) -> Result<PathName, TextFault>
-    ensures { Gives (λ n. n) result (path_name_at key.now (view value.now)) }
+    ensures { GivesKept (λ n. n) result (path_name_at key.now (view value.now)) }
 {
     match PathName::new(copy_of(alloc, text_of(value, key)?)?) {
         Some(name) => Ok(name),
@@ -93,7 +93,7 @@ pub(crate) fn path_name_of(alloc: Global, value: &Value, key: &str) -> Result<Pa
 
 #[tactic(auto, unfolding(crate::specs::Reading::base_at))]
 pub(crate) fn base_of(alloc: Global, value: &Value, key: &str) -> Result<Base, TextFault>
-    ensures { Gives (λ b. b) result (base_at key.now (view value.now)) }
+    ensures { GivesKept (λ b. b) result (base_at key.now (view value.now)) }
 {
     match Base::new(copy_of(alloc, text_of(value, key)?)?) {
         Some(base) => Ok(base),
@@ -104,7 +104,7 @@ pub(crate) fn base_of(alloc: Global, value: &Value, key: &str) -> Result<Base, T
 /// A number of items, up to the largest window.
 #[tactic(auto, unfolding(crate::specs::Reading::number_at))]
 pub(crate) fn number_of(value: &Value, key: &str) -> Result<u32, TextFault>
-    ensures { Gives (λ n. n) result (number_at key.now (view value.now)) }
+    ensures { GivesKept (λ n. n) result (number_at key.now (view value.now)) }
 {
     let number = whole_of(value, key)?;
     if number <= MOST_WINDOW {
@@ -117,7 +117,7 @@ pub(crate) fn number_of(value: &Value, key: &str) -> Result<u32, TextFault>
 /// A pace, or the default where none is told.
 #[tactic(auto, unfolding(crate::specs::Reading::pace_at))]
 pub(crate) fn pace_of(value: &Value, key: &str, default: Pace) -> Result<Pace, TextFault>
-    ensures { Gives (λ p. p) result (pace_at default key.now (view value.now)) }
+    ensures { GivesKept (λ p. p) result (pace_at default key.now (view value.now)) }
 {
     match value.get(key) {
         Some(member) => match member.as_str() {
@@ -134,7 +134,7 @@ pub(crate) fn pace_of(value: &Value, key: &str, default: Pace) -> Result<Pace, T
 /// What a window changes by, if it may, or the default where that isn't told.
 #[tactic(auto, unfolding(crate::specs::Reading::factor_at))]
 pub(crate) fn factor_of(value: &Value, key: &str, default: u32) -> Result<u32, TextFault>
-    ensures { Gives (λ n. n) result (factor_at default key.now (view value.now)) }
+    ensures { GivesKept (λ n. n) result (factor_at default key.now (view value.now)) }
 {
     match value.get(key) {
         Some(member) => match member.as_u64() {
@@ -154,7 +154,7 @@ pub(crate) fn factor_of(value: &Value, key: &str, default: u32) -> Result<u32, T
 /// A truth value, or false where none is told.
 #[tactic(auto, unfolding(crate::specs::Reading::flag_at))]
 pub(crate) fn flag_of(value: &Value, key: &str) -> Result<bool, TextFault>
-    ensures { Gives (λ b. b) result (flag_at key.now (view value.now)) }
+    ensures { GivesKept (λ b. b) result (flag_at key.now (view value.now)) }
 {
     match value.get(key) {
         Some(member) => match member.as_bool() {

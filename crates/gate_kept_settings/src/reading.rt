@@ -1,7 +1,7 @@
 //! Settings read from a JSON value.
 ghost use Rattle.std.specs.Prelude.{◌≡◌, [], ◌∷◌, ◌++◌, map, OnOk};
 ghost use Rattle.serde_json.specs.View.{view};
-ghost use Rattle.gate_kept_settings.specs.Reading.{Gives, each, job_at, rule_at, queue_at, project_at, settings_at};
+ghost use Rattle.gate_kept_settings.specs.Reading.{GivesKept, each, job_at, rule_at, queue_at, project_at, settings_at};
 
 use crate::fault::TextFault;
 use crate::members::{
@@ -24,7 +24,7 @@ where
 
 #[tactic(auto, unfolding(crate::specs::Reading::job_at))]
 fn job_of(alloc: Global, value: &Value) -> Result<Job, TextFault>
-    ensures { Gives (λ j. j) result (job_at (view value.now)) }
+    ensures { GivesKept (λ j. j) result (job_at (view value.now)) }
 {
     Ok(Job {
         name: name_of(alloc, value, "name")?,
@@ -33,7 +33,7 @@ fn job_of(alloc: Global, value: &Value) -> Result<Job, TextFault>
 }
 
 fn jobs_of(alloc: Global, values: &[Value]) -> Result<Vec<Job>, TextFault>
-    ensures { Gives (λ jobs. jobs.items) result (each job_at (map view values.now)) }
+    ensures { GivesKept (λ jobs. jobs.items) result (each job_at (map view values.now)) }
 {
     let mut jobs = Vec::new(alloc);
     for value in values {
@@ -44,7 +44,7 @@ fn jobs_of(alloc: Global, values: &[Value]) -> Result<Vec<Job>, TextFault>
 
 #[tactic(auto, unfolding(crate::specs::Reading::rule_at))]
 fn rule_of(value: &Value) -> Result<WindowRule, TextFault>
-    ensures { Gives (λ r. r) result (rule_at (view value.now)) }
+    ensures { GivesKept (λ r. r) result (rule_at (view value.now)) }
 {
     Ok(WindowRule {
         increase: pace_of(value, "increase", Pace::Linear)?,
@@ -56,7 +56,7 @@ fn rule_of(value: &Value) -> Result<WindowRule, TextFault>
 
 #[tactic(auto, unfolding(crate::specs::Reading::queue_at))]
 fn queue_of(alloc: Global, value: &Value) -> Result<Queue, TextFault>
-    ensures { Gives (λ q. q) result (queue_at (view value.now)) }
+    ensures { GivesKept (λ q. q) result (queue_at (view value.now)) }
 {
     Ok(Queue {
         name: name_of(alloc, value, "name")?,
@@ -67,7 +67,7 @@ fn queue_of(alloc: Global, value: &Value) -> Result<Queue, TextFault>
 }
 
 fn queues_of(alloc: Global, values: &[Value]) -> Result<Vec<Queue>, TextFault>
-    ensures { Gives (λ queues. queues.items) result (each queue_at (map view values.now)) }
+    ensures { GivesKept (λ queues. queues.items) result (each queue_at (map view values.now)) }
 {
     let mut queues = Vec::new(alloc);
     for value in values {
@@ -78,7 +78,7 @@ fn queues_of(alloc: Global, values: &[Value]) -> Result<Vec<Queue>, TextFault>
 
 #[tactic(auto, unfolding(crate::specs::Reading::project_at))]
 fn project_of(alloc: Global, value: &Value) -> Result<Project, TextFault>
-    ensures { Gives (λ p. p) result (project_at (view value.now)) }
+    ensures { GivesKept (λ p. p) result (project_at (view value.now)) }
 {
     let name = path_name_of(alloc, value, "name")?;
     let queue = name_of(alloc, value, "queue")?;
@@ -93,7 +93,7 @@ fn project_of(alloc: Global, value: &Value) -> Result<Project, TextFault>
 }
 
 fn projects_of(alloc: Global, values: &[Value]) -> Result<Vec<Project>, TextFault>
-    ensures { Gives (λ projects. projects.items) result (each project_at (map view values.now)) }
+    ensures { GivesKept (λ projects. projects.items) result (each project_at (map view values.now)) }
 {
     let mut projects = Vec::new(alloc);
     for value in values {
@@ -105,7 +105,7 @@ fn projects_of(alloc: Global, values: &[Value]) -> Result<Vec<Project>, TextFaul
 /// The settings that a value says, if they are sound.
 #[tactic(auto, unfolding(crate::specs::Reading::settings_at))]
 pub(crate) fn settings_of(alloc: Global, value: &Value) -> Result<Config, TextFault>
-    ensures { Gives (λ c. c) result (settings_at (view value.now)) }
+    ensures { GivesKept (λ c. c) result (settings_at (view value.now)) }
 {
     let base = base_of(alloc, value, "base")?;
     let queues = queues_of(alloc, list_of(value, "queues")?)?;

@@ -6,7 +6,7 @@ use Rattle.gate_types.specs.Settings.{Settings}
 use Rattle.gate_types.specs.Once.{Content, Call, once, answers, answer_of, next_content}
 use Rattle.gate_types.specs.Adopt.{may_adopt, adopted_content}
 use Rattle.gate_types.specs.Events.{Event, called, set, through, answers_through, next_gated}
-use Rattle.gate_types.specs.Gated.{Gated, opened}
+use Rattle.gate_types.specs.Gated.{Gated, new_gate}
 use Rattle.gate_laws.specs.Adoption.{IsSoundEvent, IsEventInForm, CallsAreOnce, IsGatedLawfully}
 use Rattle.gate_laws.specs.Adoption.{EventsAreLawful, IsGatedInForm, EventsAreInForm}
 use Rattle.gate_laws.specs.Adoption.{EveryChangeLandsOnceThroughEvents, EveryLandingIsShownThroughEvents}
@@ -47,7 +47,7 @@ through_lawful [] g w h = h
 through_lawful (e ∷ es) g w h = through_lawful es (next_gated g e) w.1 (event_lawful g e w.0 h)
 
 pub events_are_lawful : EventsAreLawful
-events_are_lawful c es w v = through_lawful es (opened c) v (record { settings = w; state = start_lawful c })
+events_are_lawful c es w v = through_lawful es (new_gate c) v (record { settings = w; state = start_lawful c })
 
 pub every_change_lands_once_through_events : EveryChangeLandsOnceThroughEvents
 every_change_lands_once_through_events c es w v = (events_are_lawful c es w v).state.sound.landed_differ

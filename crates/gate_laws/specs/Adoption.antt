@@ -10,7 +10,7 @@ use Rattle.gate_types.specs.Events.{Event, called, set, through, answers_through
 use Rattle.gate_types.specs.Evidence.{IsShown}
 use Rattle.gate_types.specs.Lawful.{IsSound, IsLawful, IsDistinct, landed_changes}
 use Rattle.gate_types.specs.Forms.{are_settings_in_form, is_call_in_form, IsLawfulContent}
-use Rattle.gate_types.specs.Gated.{Gated, opened}
+use Rattle.gate_types.specs.Gated.{Gated, new_gate}
 use Rattle.gate_laws.specs.Orders.{IsStillShown}
 
 -- a sound state is sound under settings that it adopts
@@ -65,7 +65,7 @@ pub record IsGatedLawfully (g : Gated) : Type 0 where
 
 abbrev pub EventsAreLawful : Type 0
 EventsAreLawful = (c : Settings) (es : List Event) → are_sound c ≡ true → Each IsSoundEvent es →
-    IsGatedLawfully (through (opened c) es)
+    IsGatedLawfully (through (new_gate c) es)
 
 -- from any lawful content, all stays lawful and of its form
 pub record IsGatedInForm (g : Gated) : Type 0 where
@@ -80,11 +80,11 @@ EventsAreInForm = (g : Gated) (es : List Event) → IsGatedInForm g → Each IsE
 -- no change stands twice among all landings
 abbrev pub EveryChangeLandsOnceThroughEvents : Type 0
 EveryChangeLandsOnceThroughEvents = (c : Settings) (es : List Event) → are_sound c ≡ true → Each IsSoundEvent es →
-    IsDistinct (landed_changes (through (opened c) es).content.state)
+    IsDistinct (landed_changes (through (new_gate c) es).content.state)
 
 -- and each voting job that a landing kept has just one live successful build, which ran on the landings before it,
 -- then itself
 abbrev pub EveryLandingIsShownThroughEvents : Type 0
 EveryLandingIsShownThroughEvents = (c : Settings) (es : List Event) → are_sound c ≡ true → Each IsSoundEvent es →
-    (let g = through (opened c) es in
+    (let g = through (new_gate c) es in
     All (λ q. (k : ℕ) → IsShown g.settings g.content.state q k) g.content.state.queues)

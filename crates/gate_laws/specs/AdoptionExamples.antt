@@ -8,7 +8,7 @@ use Rattle.gate_types.specs.Settings.{Settings, default_rule}
 use Rattle.gate_types.specs.Events.{Event, called, set, through}
 use Rattle.gate_types.specs.Status.{status_text}
 use Rattle.gate_types.specs.OrderList.{order_list_text}
-use Rattle.gate_types.specs.Gated.{opened as first}
+use Rattle.gate_types.specs.Gated.{new_gate as first}
 use Rattle.gate_laws.specs.FastExamples.{fast_settings}
 use Rattle.gate_laws.specs.Script.{base, core, lib, app, site, unit, queue, settings, core_alone, opened, approved}
 use Rattle.gate_laws.specs.Script.{take, passed, failed, numbered, lines}

@@ -13,8 +13,8 @@ three = begun settings
     (opened 101 lib ∷ opened 102 app ∷ opened 103 lib ∷ approved 101 ∷ approved 102 ∷ approved 103 ∷ [])
 
 -- 101 and 102 in the queue
-abbrev pub two : State
-two = begun settings (opened 101 lib ∷ opened 102 app ∷ approved 101 ∷ approved 102 ∷ [])
+abbrev pub two_queued : State
+two_queued = begun settings (opened 101 lib ∷ opened 102 app ∷ approved 101 ∷ approved 102 ∷ [])
 
 -- behind a window of 2, builds are given for the jobs of two items, front to back; the third item waits
 abbrev pub BuildsAreGivenFrontToBack : Type 0
@@ -37,15 +37,15 @@ middle_fails = take ∷ take ∷ take ∷ failed 3 ∷ withdrawn 101 ∷ take �
 
 -- an item that fails behind another stays until that one is decided, and starts anew where that one goes
 pub record AFailureBehindAnItemStays : Type 0 where
-  pub replies : replies_to settings two middle_fails
+  pub replies : replies_to settings two_queued middle_fails
       ≡ build_1 ∷ build_2 ∷ build_3 ∷ noted ∷ removed ∷ build_4 ∷ stale ∷ []
-  pub failing : status_text settings (after settings two (take ∷ take ∷ take ∷ failed 3 ∷ [])) ≡ lines (
+  pub failing : status_text settings (after settings two_queued (take ∷ take ∷ take ∷ failed 3 ∷ [])) ≡ lines (
       codes "queue core window 2 landed 0" ∷
       codes "     1       101    1      - ok      unit=running docs=running" ∷
       codes "     2       102    1      1 failing unit=failure" ∷
       codes "queue web window 2 landed 0" ∷
       codes "end" ∷ [])
-  pub anew : status_text settings (after settings two middle_fails) ≡ lines (
+  pub anew : status_text settings (after settings two_queued middle_fails) ≡ lines (
       codes "queue core window 2 landed 0" ∷
       codes "     2       102    1      - ok      unit=running" ∷
       codes "queue web window 2 landed 0" ∷
@@ -80,10 +80,11 @@ lost_on_two_lines = take ∷ take ∷ take ∷ lost 3 ∷ take ∷ lost 4 ∷ fa
 
 -- losses count only where the builds ran on the same
 pub record LossesOnTwoLinesArentAdded : Type 0 where
-  pub replies : replies_to settings two lost_on_two_lines ≡
+  pub replies : replies_to settings two_queued lost_on_two_lines ≡
       build_1 ∷ build_2 ∷ build_3 ∷ noted ∷
       codes "{\"after\":0,\"ahead\":[[101,1]],\"build\":4,\"change\":102,\"job\":\"unit\",\"queue\":\"core\",\"reply\":\"build\",\"revision\":1}" ∷ noted ∷
       noted ∷
       codes "{\"after\":0,\"ahead\":[],\"build\":5,\"change\":102,\"job\":\"unit\",\"queue\":\"core\",\"reply\":\"build\",\"revision\":1}" ∷ noted ∷
       codes "{\"after\":0,\"ahead\":[],\"build\":6,\"change\":102,\"job\":\"unit\",\"queue\":\"core\",\"reply\":\"build\",\"revision\":1}" ∷ []
-  pub history : core_history (after settings two lost_on_two_lines) ≡ lines (codes "history core" ∷ codes "end 0" ∷ [])
+  pub history : core_history (after settings two_queued lost_on_two_lines)
+      ≡ lines (codes "history core" ∷ codes "end 0" ∷ [])

@@ -42,8 +42,8 @@ AnUnavailableCallMayComeAgain = texts settings (empty settings)
     ≡ unavailable ∷ recorded ∷ []
 
 -- 101 and 102 in the queue, then a second revision of 101
-abbrev revised : State
-revised = after core_alone (start core_alone)
+abbrev revised_once : State
+revised_once = after core_alone (start core_alone)
     (opened 101 lib ∷ opened 102 app ∷ approved 101 ∷ approved 102 ∷ delivery.Revision 101 lib 2 [] ∷ approved 101 ∷ [])
 
 -- a revision takes the item of the earlier one out of its queue, and needs an approval of its own
@@ -52,8 +52,8 @@ pub record ARevisionSupersedes : Type 0 where
       (opened 101 lib ∷ opened 102 app ∷ approved 101 ∷ approved 102 ∷
       delivery.Revision 101 lib 2 [] ∷ approved 101 ∷ [])
       ≡ recorded ∷ recorded ∷ queued (codes "1") ∷ queued (codes "2") ∷ recorded ∷ stale ∷ []
-  pub status : status_text core_alone revised ≡ lines (
+  pub status : status_text core_alone revised_once ≡ lines (
       codes "queue core window 2 landed 0" ∷
       codes "     2       102    1      - ok      unit=waiting" ∷
       codes "end" ∷ [])
-  pub approved_anew : replies_to core_alone revised (delivery.Approved 101 2 ∷ []) ≡ queued (codes "3") ∷ []
+  pub approved_anew : replies_to core_alone revised_once (delivery.Approved 101 2 ∷ []) ≡ queued (codes "3") ∷ []

@@ -8,7 +8,7 @@ use Rattle.gate_types.specs.OrderList.{order_list_text}
 use Rattle.gate_laws.specs.Script.{settings, with_window, lib, app, site, opened, approved, withdrawn, take, passed}
 use Rattle.gate_laws.specs.Script.{failed, under, at, replies_to, after, begun, texts, core_history, lines, recorded}
 use Rattle.gate_laws.specs.Script.{stale, removed, noted, landed_as, submitting, no_order, build_1, build_2, build_3}
-use Rattle.gate_laws.specs.BuildExamples.{three, two}
+use Rattle.gate_laws.specs.BuildExamples.{three, two_queued}
 
 -- 101 has failed while its `docs` still run, and 102 behind it has passed without it
 abbrev second_passed : State
@@ -59,29 +59,29 @@ both_land = take ∷ take ∷ take ∷ passed 1 ∷ passed 2 ∷ delivery.Landed
 
 -- a landing keeps the builds behind it
 pub record ALandingKeepsTheBuildsBehindIt : Type 0 where
-  pub replies : replies_to settings two both_land
+  pub replies : replies_to settings two_queued both_land
       ≡ build_1 ∷ build_2 ∷ build_3 ∷ noted ∷ noted ∷ landed_as (codes "1") ∷ noted ∷ landed_as (codes "2") ∷ []
   pub orders : order_list_text settings
-      (after settings two (take ∷ take ∷ take ∷ passed 1 ∷ passed 2 ∷ delivery.Landed 1 ∷ passed 3 ∷ []))
+      (after settings two_queued (take ∷ take ∷ take ∷ passed 1 ∷ passed 2 ∷ delivery.Landed 1 ∷ passed 3 ∷ []))
       ≡ codes "[{\"change\":102,\"order\":2,\"project\":\"app\",\"queue\":\"core\",\"revision\":1}]"
-  pub status : status_text settings (after settings two both_land) ≡ lines (
+  pub status : status_text settings (after settings two_queued both_land) ≡ lines (
       codes "queue core window 4 landed 2" ∷
       codes "queue web window 2 landed 0" ∷
       codes "end" ∷ [])
 
 -- 101 has passed, and its order is shown
-abbrev shown : State
-shown = after settings running (passed 1 ∷ passed 2 ∷ [])
+abbrev order_shown : State
+order_shown = after settings running (passed 1 ∷ passed 2 ∷ [])
 
 -- a change whose order is shown can't be withdrawn or revised until the forge has answered; the refused ids serve
 -- again then
 pub record AShownOrderIsLeftAlone : Type 0 where
-  pub orders : order_list_text settings shown ≡ order_of_101
-  pub replies : texts settings (at shown)
+  pub orders : order_list_text settings order_shown ≡ order_of_101
+  pub replies : texts settings (at order_shown)
       (under 1 (withdrawn 101) ∷ under 2 (delivery.Revision 101 lib 2 []) ∷ under 3 (delivery.Refused 1) ∷
       under 2 (delivery.Revision 101 lib 2 []) ∷ under 1 (withdrawn 101) ∷ [])
       ≡ submitting ∷ submitting ∷ removed ∷ recorded ∷ stale ∷ []
-  pub status : status_text settings (after settings shown (delivery.Refused 1 ∷ [])) ≡ lines (
+  pub status : status_text settings (after settings order_shown (delivery.Refused 1 ∷ [])) ≡ lines (
       codes "queue core window 1 landed 0" ∷
       codes "queue web window 2 landed 0" ∷
       codes "end" ∷ [])

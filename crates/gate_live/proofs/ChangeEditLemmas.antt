@@ -16,7 +16,7 @@ use Rattle.gate_types.proofs.ChangedLemmas.{found_changed}
 use Rattle.gate_book_trait.specs.RowReads.{change_row_in, approval_in, change_in}
 use Rattle.gate_book_trait.proofs.Finding.{found_has}
 use Rattle.gate_memory.specs.Sorted.{without}
-use Rattle.gate_memory.specs.Changes.{HasRoom}
+use Rattle.gate_memory.specs.Changes.{HasRoomForChanges}
 use Rattle.gate_memory.specs.declared.changes.ChangeTable.{ChangeTable}
 use Rattle.gate_memory.proofs.RoomLemmas.{changes_fewer}
 use Rattle.gate_memory.specs.HeldQueues.{LiveQueue}
@@ -201,5 +201,5 @@ held_read old new all n k (Ok done) put same none known held =
 -- ---- room
 
 -- room for more is room for one
-pub room_one : (n m k : ℕ) (t : ChangeTable) → HasRoom (suc n) (m + k) t → HasRoom 1 m t
+pub room_one : (n m k : ℕ) (t : ChangeTable) → HasRoomForChanges (suc n) (m + k) t → HasRoomForChanges 1 m t
 room_one n m k t room = changes_fewer (suc n) (m + k) 1 m t (omega arith) (omega arith) room

@@ -15,11 +15,11 @@ use Rattle.gate_types.specs.Tables.{edited_build_rows}
 use Rattle.gate_types.specs.Rising.{RisesFrom}
 use Rattle.gate_types.proofs.PlainLemmas.{filter_twice}
 use Rattle.gate_memory.specs.Sorted.{without}
-use Rattle.gate_memory.specs.Builds.{number_of, is_live_of, is_of}
+use Rattle.gate_memory.specs.Builds.{number_of_build, is_live_of, is_build_of}
 use Rattle.gate_memory.specs.TableReads.{builds_of_rows}
 use Rattle.gate_memory.proofs.SortedLemmas.{rises-put, rises-changed}
 use Rattle.gate_memory.proofs.TableLemmas.{find_put}
-use Rattle.gate_live.specs.HeldBuilds.{KnownBuilds, AreBuildsOf, edited_held, forgotten, is_live_known, knows, put_all}
+use Rattle.gate_live.specs.HeldBuilds.{KnownBuilds, AreBuildsOf, edited_held, forgotten, is_live_known, knows, put_in_turn}
 use Rattle.gate_live.specs.HeldBuilds.{serial_of}
 use Rattle.gate_live.specs.declared.held_builds.Known.{Known}
 use Rattle.gate_live.proofs.CommuteLemmas.{filter_same, filter_put, filter_changed, filter_stopped, find_without}
@@ -62,7 +62,7 @@ none_held (b ∷ bs) = by_live b.live (none_held bs)
 -- ---- edits
 
 -- the builds of an item that is known no longer
-dropped : (known : List Known) (s : ℕ) (b : Build) → (is_live_known known b && not (is_of s b)) ≡ is_live_known (without serial_of s known) b
+dropped : (known : List Known) (s : ℕ) (b : Build) → (is_live_known known b && not (is_build_of s b)) ≡ is_live_known (without serial_of s known) b
 dropped known s b = by_tests b.live (knows known b.serial) (b.serial == s) ∙ sym (ap (λ t. b.live && t) (knows_without known s b.serial))
   where
     by_tests : (l k t : Bool) → ((l && k) && not t) ≡ (l && (not t && k))
@@ -75,36 +75,36 @@ dropped known s b = by_tests b.live (knows known b.serial) (b.serial == s) ∙ s
 -- what is held without them
 builds_forgotten : (h : KnownBuilds) (all : List Build) (s : ℕ) → AreBuildsOf h all → AreBuildsOf (forgotten h s) all
 builds_forgotten h all s held =
-    ap (filter (λ (b : Build). not (is_of s b))) held ∙ filter_twice (is_live_known h.known) (λ (b : Build). not (is_of s b)) all
-    ∙ filter_same (λ (b : Build). is_live_known h.known b && not (is_of s b)) (is_live_known (without serial_of s h.known)) all (dropped h.known s)
+    ap (filter (λ (b : Build). not (is_build_of s b))) held ∙ filter_twice (is_live_known h.known) (λ (b : Build). not (is_build_of s b)) all
+    ∙ filter_same (λ (b : Build). is_live_known h.known b && not (is_build_of s b)) (is_live_known (without serial_of s h.known)) all (dropped h.known s)
 
 -- what is held after an edit is what is to be held of all builds then
-pub builds_edited : (h : KnownBuilds) (all : List Build) (e : Edit) → RisesFrom number_of 0 all → AreBuildsOf h all → AreBuildsOf (edited_held h e) (edited_build_rows all e)
+pub builds_edited : (h : KnownBuilds) (all : List Build) (e : Edit) → RisesFrom number_of_build 0 all → AreBuildsOf h all → AreBuildsOf (edited_held h e) (edited_build_rows all e)
 builds_edited h all (edit.PutBuild b) rise held =
-    ap (λ rows. cond (is_live_known h.known b) (put_by number_of b rows) (without number_of b.number rows)) held ∙ sym (filter_put number_of (is_live_known h.known) b 0 all rise)
+    ap (λ rows. cond (is_live_known h.known b) (put_by number_of_build b rows) (without number_of_build b.number rows)) held ∙ sym (filter_put number_of_build (is_live_known h.known) b 0 all rise)
 builds_edited h all (edit.SetOutcome n o) rise held =
-    ap (change_build n (with_outcome o)) held ∙ sym (filter_changed number_of (is_live_known h.known) n (with_outcome o) all (λ b. refl))
+    ap (change_build n (with_outcome o)) held ∙ sym (filter_changed number_of_build (is_live_known h.known) n (with_outcome o) all (λ b. refl))
 builds_edited h all (edit.StopBuild n) rise held =
-    ap (without number_of n) held ∙ sym (filter_stopped number_of (is_live_known h.known) n (with_live false) all (λ b. refl))
+    ap (without number_of_build n) held ∙ sym (filter_stopped number_of_build (is_live_known h.known) n (with_live false) all (λ b. refl))
 builds_edited h all (edit.DropItem s) rise held = builds_forgotten h all s held
 builds_edited h all (edit.LandItem s) rise held = builds_forgotten h all s held
 builds_edited h all _ rise held = held
 
 -- and all still rise by number
-pub builds_still_rise : (all : List Build) (e : Edit) → RisesFrom number_of 0 all → RisesFrom number_of 0 (edited_build_rows all e)
-builds_still_rise all (edit.PutBuild b) rise = rises-put number_of 0 b all (omega arith) rise
-builds_still_rise all (edit.SetOutcome n o) rise = rises-changed number_of n (with_outcome o) 0 all (λ b. refl) rise
-builds_still_rise all (edit.StopBuild n) rise = rises-changed number_of n (with_live false) 0 all (λ b. refl) rise
+pub builds_still_rise : (all : List Build) (e : Edit) → RisesFrom number_of_build 0 all → RisesFrom number_of_build 0 (edited_build_rows all e)
+builds_still_rise all (edit.PutBuild b) rise = rises-put number_of_build 0 b all (omega arith) rise
+builds_still_rise all (edit.SetOutcome n o) rise = rises-changed number_of_build n (with_outcome o) 0 all (λ b. refl) rise
+builds_still_rise all (edit.StopBuild n) rise = rises-changed number_of_build n (with_live false) 0 all (λ b. refl) rise
 builds_still_rise all _ rise = rise
 
 -- ---- what was read
 
 -- the live builds of an item, put among those that are held
-pub builds_more : (h : KnownBuilds) (all : List Build) (k : Known) → RisesFrom number_of 0 all → AreBuildsOf h all →
-    put_all (filter (is_live_of k.serial) all) h.rows ≡ filter (is_live_known (put_by serial_of k h.known)) all
+pub builds_more : (h : KnownBuilds) (all : List Build) (k : Known) → RisesFrom number_of_build 0 all → AreBuildsOf h all →
+    put_in_turn (filter (is_live_of k.serial) all) h.rows ≡ filter (is_live_known (put_by serial_of k h.known)) all
 builds_more h all k rise held =
-    ap (put_all (filter (is_live_of k.serial) all)) held
-    ∙ puts_passing number_of (is_live_of k.serial) (is_live_known h.known) 0 all rise
+    ap (put_in_turn (filter (is_live_of k.serial) all)) held
+    ∙ puts_passing number_of_build (is_live_of k.serial) (is_live_known h.known) 0 all rise
     ∙ filter_same (λ (b : Build). is_live_of k.serial b || is_live_known h.known b) (is_live_known (put_by serial_of k h.known)) all one
   where
     by_tests : (l t s : Bool) → ((l && t) || (l && s)) ≡ (l && (t || s))

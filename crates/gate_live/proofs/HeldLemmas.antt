@@ -10,7 +10,7 @@ use Rattle.gate_memory.specs.declared.queues.QueueTable.{QueueTable}
 use Rattle.gate_memory.proofs.RoomLemmas.{queue_fewer}
 use Rattle.gate_book_trait.proofs.Finding.{in_weaker}
 use Rattle.gate_live.specs.Live.{bare, edited_live_queue, landings_after, reports_after}
-use Rattle.gate_live.specs.Held.{HasRoom, HasRoomIn, queue_of}
+use Rattle.gate_live.specs.Held.{HasRoomInEach, HasRoomIn, queue_of}
 use Rattle.gate_live.specs.declared.held.Held.{Held}
 use Rattle.gate_live.specs.declared.held_queue.HeldQueue.{HeldQueue}
 
@@ -18,7 +18,7 @@ use Rattle.gate_live.specs.declared.held_queue.HeldQueue.{HeldQueue}
 pub queue_one : (n : ℕ) (q : HeldQueue) → HasRoomIn (suc n) q → HasRoomIn 1 q
 queue_one n q room = queue_fewer (suc n) 1 q.table (omega arith) room
 
-pub room_one : (n : ℕ) (h : Held) → HasRoom (suc n) h → HasRoom 1 h
+pub room_one : (n : ℕ) (h : Held) → HasRoomInEach (suc n) h → HasRoomInEach 1 h
 room_one n h room = in_weaker (HasRoomIn (suc n)) (HasRoomIn 1) (λ q r. queue_one n q r) h.queues.items room
 
 -- an edit that puts no landing leaves the place of the last
@@ -32,7 +32,7 @@ no_report name n (edit.PutReport q place r) not = absurd (not q place r refl)
 no_report name n _ not = refl
 
 -- after any other edit all that changes is in the table
-pub table_edited : (e : Edit) (old : HeldQueue) (t : QueueTable) → queue.rows_of t ≡ edited_queue e (queue.rows_of old.table) →
+pub table_edited : (e : Edit) (old : HeldQueue) (t : QueueTable) → queue.rows_of_table t ≡ edited_queue e (queue.rows_of_table old.table) →
     ((q : List ℕ) (place : ℕ) (l : Landing) → e ≡ edit.PutLanding q place l → ⊥) →
     ((q : List ℕ) (place : ℕ) (r : Report) → e ≡ edit.PutReport q place r → ⊥) →
     queue_of (record old { table = t }) ≡ edited_live_queue e (queue_of old)

@@ -10,7 +10,7 @@ use Rattle.gate_types.specs.declared.rows.LandingRow.{LandingRow}
 use Rattle.gate_types.specs.declared.rows.ReportRow.{ReportRow}
 use Rattle.gate_types.specs.Names.{same_name}
 use Rattle.gate_types.specs.State.{put_by}
-use Rattle.gate_types.specs.Rows.{numbered, edited_reports}
+use Rattle.gate_types.specs.Rows.{numbered_reports, edited_reports}
 use Rattle.gate_types.specs.Tables.{QueueRows, Tables, edited_landings, edited_queue, edited_tables, fold_all}
 use Rattle.gate_types.specs.Tables.{numbered_landings}
 use Rattle.gate_live.specs.Live.{LiveTables, last_place, landings_after, reports_after, live_queue, live_tables}
@@ -45,11 +45,11 @@ numbered_landings_end n (l ∷ ls) = let rest = numbered_landings_end (suc n) ls
 pub count_of_landings : (ls : List Landing) → last_place (λ (r : LandingRow). r.place) (numbered_landings 0 ls) ≡ length ls
 count_of_landings ls = let h = numbered_landings_end 0 ls in omega (arith, h)
 
-numbered_reports_end : (n : ℕ) (rs : List Report) → max n (last_place (λ (r : ReportRow). r.place) (numbered n rs)) ≡ n + length rs
+numbered_reports_end : (n : ℕ) (rs : List Report) → max n (last_place (λ (r : ReportRow). r.place) (numbered_reports n rs)) ≡ n + length rs
 numbered_reports_end n [] = omega arith
 numbered_reports_end n (r ∷ rs) = let rest = numbered_reports_end (suc n) rs in omega (arith, rest)
 
-pub count_of_reports : (rs : List Report) → last_place (λ (r : ReportRow). r.place) (numbered 0 rs) ≡ length rs
+pub count_of_reports : (rs : List Report) → last_place (λ (r : ReportRow). r.place) (numbered_reports 0 rs) ≡ length rs
 count_of_reports rs = let h = numbered_reports_end 0 rs in omega (arith, h)
 
 -- ---- one edit

@@ -11,7 +11,7 @@ use Rattle.gate_types.specs.Forms.{IsLawfulContent}
 use Rattle.gate_types.specs.Tables.{Leads, Tables, edited_build_rows, edited_plans, edited_tables, fold_all, tables}
 use Rattle.gate_types.specs.Keys.{serial_of_plan}
 use Rattle.gate_types.specs.Rising.{RisesFrom}
-use Rattle.gate_memory.specs.Builds.{number_of}
+use Rattle.gate_memory.specs.Builds.{number_of_build}
 use Rattle.gate_live.specs.Live.{LiveTables, live_tables, fold_live}
 use Rattle.gate_live.specs.Held.{IsLiveOf}
 use Rattle.gate_live.specs.HeldBuilds.{AreBuildsOf, KnownBuilds, edited_held, fold_held}
@@ -46,7 +46,7 @@ plans_folded t [] = refl
 plans_folded t (e ∷ es) = plans_folded (edited_tables t e) es
 
 -- what is held of the builds after edits of builds and plans is what is to be held after all edits
-builds_after : (edits : List Edit) (h : KnownBuilds) (all : List Build) → RisesFrom number_of 0 all → AreBuildsOf h all →
+builds_after : (edits : List Edit) (h : KnownBuilds) (all : List Build) → RisesFrom number_of_build 0 all → AreBuildsOf h all →
     AreBuildsOf (fold_held h (filter is_of_items edits)) (fold edited_build_rows all edits)
 builds_after [] h all rise held = held
 builds_after (edit.DropItem s ∷ es) h all rise held = builds_after es (edited_held h (edit.DropItem s)) all rise (builds_edited h all (edit.DropItem s) rise held)

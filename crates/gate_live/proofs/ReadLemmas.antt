@@ -72,6 +72,6 @@ pub above_rises : (above : ℕ) (items : List Item) → IfSome (read.first_above
 above_rises above items = weaker_if (λ (i : Item). nat_lt above i.serial ≡ true) (λ (i : Item). above < i.serial) (λ i e. ltb-true above i.serial e) (read.first_above above items)
     (found_passes (λ (i : Item). nat_lt above i.serial) items)
 
-pub below_falls : (below : ℕ) (items : List Item) → IfSome (read.last_below below items) (λ i. i.serial < below)
-below_falls below items = weaker_if (λ (i : Item). nat_lt i.serial below ≡ true) (λ (i : Item). i.serial < below) (λ i e. ltb-true i.serial below e) (read.last_below below items)
+pub below_falls : (below : ℕ) (items : List Item) → IfSome (read.last_item_below below items) (λ i. i.serial < below)
+below_falls below items = weaker_if (λ (i : Item). nat_lt i.serial below ≡ true) (λ (i : Item). i.serial < below) (λ i e. ltb-true i.serial below e) (read.last_item_below below items)
     (last_passes (λ (i : Item). nat_lt i.serial below) None items tt)

@@ -12,7 +12,7 @@ use Rattle.gate_types.specs.Once.{Content}
 use Rattle.gate_types.specs.Forms.{IsLawfulContent}
 use Rattle.gate_types.specs.Keys.{serial_of_item}
 use Rattle.gate_types.specs.Rising.{RisesFrom}
-use Rattle.gate_memory.specs.Builds.{number_of}
+use Rattle.gate_memory.specs.Builds.{number_of_build}
 use Rattle.gate_book_trait.specs.Reads as read
 use Rattle.gate_book_trait.proofs.Finding.{all_found}
 use Rattle.gate_book_trait.proofs.ReadLemmas.{numbers_rise, all_rows}
@@ -43,10 +43,10 @@ items_rise c x name q lawful named =
 
 -- ---- builds
 
-rise_by_numbers : (m : ℕ) (builds : List Build) → RisesFrom (λ (n : ℕ). n) m (map number_of builds) → RisesFrom number_of m builds
+rise_by_numbers : (m : ℕ) (builds : List Build) → RisesFrom (λ (n : ℕ). n) m (map number_of_build builds) → RisesFrom number_of_build m builds
 rise_by_numbers m [] up = tt
 rise_by_numbers m (b ∷ bs) up = (up.0, rise_by_numbers (suc b.number) bs up.1)
 
-pub builds_rise : (c : Settings) (x : Content) → IsLawfulContent c x → RisesFrom number_of 0 x.state.builds
+pub builds_rise : (c : Settings) (x : Content) → IsLawfulContent c x → RisesFrom number_of_build 0 x.state.builds
 builds_rise c x lawful =
-    rise_by_numbers 0 x.state.builds (numbers_rise 0 (map number_of x.state.builds) (λ h. omega arith) lawful.lawful.sound.builds_rise)
+    rise_by_numbers 0 x.state.builds (numbers_rise 0 (map number_of_build x.state.builds) (λ h. omega arith) lawful.lawful.sound.builds_rise)

@@ -13,7 +13,7 @@ use Rattle.gate_live.specs.declared.held.Held.{Held}
 
 -- the live rows of a held queue
 abbrev pub queue_of : HeldQueue → LiveQueue
-queue_of h = record { rows = bare (queue.rows_of h.table); landings = h.landings; reports = h.reports }
+queue_of h = record { rows = bare (queue.rows_of_table h.table); landings = h.landings; reports = h.reports }
 
 -- the live rows of all held queues, and the counters
 abbrev pub live_of : Held → LiveTables
@@ -21,19 +21,19 @@ live_of h = record { queues = map queue_of h.queues.items; counters = drawn_of h
 
 -- a held queue has room for n more rows
 abbrev pub HasRoomIn : ℕ → HeldQueue → Type 0
-HasRoomIn n q = queue.HasRoom n q.table
+HasRoomIn n q = queue.HasRoomForRows n q.table
 
 -- each held queue has room for n more rows
-abbrev pub HasRoom : ℕ → Held → Type 0
-HasRoom n h = AllByRecursion (HasRoomIn n) h.queues.items
+abbrev pub HasRoomInEach : ℕ → Held → Type 0
+HasRoomInEach n h = AllByRecursion (HasRoomIn n) h.queues.items
 
 -- the table of a held queue satisfies its invariant
 abbrev pub IsKeptQueue : HeldQueue → Type 0
-IsKeptQueue q = queue.IsKept q.table
+IsKeptQueue q = queue.IsKeptQueueTable q.table
 
 -- the table of each held queue satisfies its invariant
-abbrev pub AreKept : Held → Type 0
-AreKept h = AllByRecursion IsKeptQueue h.queues.items
+abbrev pub AreKeptQueues : Held → Type 0
+AreKeptQueues h = AllByRecursion IsKeptQueue h.queues.items
 
 -- the queues and counters, if they are held, are the live ones of a content
 abbrev pub IsLiveOf : Option LiveTables → Settings → Content → Type 0

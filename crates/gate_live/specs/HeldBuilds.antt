@@ -8,7 +8,7 @@ use Rattle.gate_types.specs.Rows.{with_outcome, change_build}
 use Rattle.gate_types.specs.Rising.{RisesFrom}
 use Rattle.gate_memory.specs.Sorted.{without}
 use Rattle.gate_memory.specs.Builds as build_table
-use Rattle.gate_memory.specs.Builds.{is_of, number_of}
+use Rattle.gate_memory.specs.Builds.{is_build_of, number_of_build}
 use Rattle.gate_live.specs.declared.held_builds.Known.{Known}
 use Rattle.gate_live.specs.declared.held_builds.HeldBuilds.{HeldBuilds}
 
@@ -36,21 +36,22 @@ AreBuildsOf h all = h.rows ≡ filter (is_live_known h.known) all
 -- ---- what edits make of the held builds
 
 -- the held builds after a build is put: it is held only if it is live and its item is known
-abbrev pub put_held : KnownBuilds → Build → List Build
-put_held h b = if is_live_known h.known b then put_by number_of b h.rows else without number_of b.number h.rows
+abbrev pub put_held_build : KnownBuilds → Build → List Build
+put_held_build h b =
+    if is_live_known h.known b then put_by number_of_build b h.rows else without number_of_build b.number h.rows
 
 -- the known builds without those of an item, which is known no longer
 abbrev pub forgotten : KnownBuilds → ℕ → KnownBuilds
 forgotten h s = record {
-  rows = filter (λ b. not (is_of s b)) h.rows;
+  rows = filter (λ b. not (is_build_of s b)) h.rows;
   known = without serial_of s h.known;
 }
 
 -- the known builds after an edit
 abbrev pub edited_held : KnownBuilds → Edit → KnownBuilds
-edited_held h (edit.PutBuild b) = record h { rows = put_held h b }
+edited_held h (edit.PutBuild b) = record h { rows = put_held_build h b }
 edited_held h (edit.SetOutcome n o) = record h { rows = change_build n (with_outcome o) h.rows }
-edited_held h (edit.StopBuild n) = record h { rows = without number_of n h.rows }
+edited_held h (edit.StopBuild n) = record h { rows = without number_of_build n h.rows }
 edited_held h (edit.DropItem s) = forgotten h s
 edited_held h (edit.LandItem s) = forgotten h s
 edited_held h _ = h
@@ -60,8 +61,8 @@ abbrev pub fold_held : KnownBuilds → List Edit → KnownBuilds
 fold_held h edits = fold edited_held h edits
 
 -- rows of builds after other builds are put one after another
-abbrev pub put_all : List Build → List Build → List Build
-put_all found rows = fold (λ rs b. put_by number_of b rs) rows found
+abbrev pub put_in_turn : List Build → List Build → List Build
+put_in_turn found rows = fold (λ rs b. put_by number_of_build b rs) rows found
 
 -- ---- how builds are held
 
@@ -70,7 +71,7 @@ known_of h = record { rows = h.table.rows.items; known = h.known.items }
 
 -- the table of builds satisfies its invariant, and the serials of the known items rise
 pub record AreBuildsKept (h : HeldBuilds) : Type 0 where
-  pub table : build_table.AreKept h.table
+  pub table : build_table.IsKeptBuildTable h.table
   pub rise : RisesFrom serial_of 0 h.known.items
 
 -- there is room for n more builds

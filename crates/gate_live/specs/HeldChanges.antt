@@ -89,8 +89,8 @@ abbrev pub fold_rows : List ChangeRow → List Edit → List ChangeRow
 fold_rows rows edits = fold edited_rows rows edits
 
 -- the row of a change that isn't ready
-abbrev pub unready : Change → ChangeRow
-unready k = record { change = k; approval = None }
+abbrev pub unready_row : Change → ChangeRow
+unready_row k = record { change = k; approval = None }
 
 -- ---- which changes are dropped
 
@@ -131,8 +131,8 @@ changes_held h = change_table.changes_of h.table
 
 -- the table of changes satisfies its invariant
 abbrev pub AreKeptChanges : HeldChanges → Type 0
-AreKeptChanges h = change_table.IsKept h.table
+AreKeptChanges h = change_table.IsKeptChangeTable h.table
 
 -- there is room for n more changes with m needs in total
 abbrev pub HasRoomFor : ℕ → ℕ → HeldChanges → Type 0
-HasRoomFor n m h = change_table.HasRoom n m h.table
+HasRoomFor n m h = change_table.HasRoomForChanges n m h.table

@@ -17,13 +17,13 @@ ArePlansOf held plans = AllByRecursion (λ p. find (λ q. q.serial == p.serial) 
 -- ---- what edits make of the held plans, where is_item says whether the item with a serial is held
 
 -- the held plans after a plan is put: it is held only if its item is
-abbrev pub put_held : (ℕ → Bool) → List Plan → Plan → List Plan
-put_held is_item rows p =
+abbrev pub put_held_plan : (ℕ → Bool) → List Plan → Plan → List Plan
+put_held_plan is_item rows p =
     if is_item p.serial then put_by serial_of_plan p rows else without serial_of_plan p.serial rows
 
 -- the held plans after an edit
 abbrev pub edited_held_plans : (ℕ → Bool) → List Plan → Edit → List Plan
-edited_held_plans is_item rows (edit.PutPlan p) = put_held is_item rows p
+edited_held_plans is_item rows (edit.PutPlan p) = put_held_plan is_item rows p
 edited_held_plans is_item rows (edit.DropItem s) = without serial_of_plan s rows
 edited_held_plans is_item rows (edit.LandItem s) = without serial_of_plan s rows
 edited_held_plans is_item rows _ = rows
@@ -39,8 +39,8 @@ plans_held h = h.table.rows.items
 
 -- the table of plans satisfies its invariant
 abbrev pub ArePlansKept : HeldPlans → Type 0
-ArePlansKept h = plan_table.IsKept h.table
+ArePlansKept h = plan_table.IsKeptPlanTable h.table
 
 -- there is room for n more plans
 abbrev pub HavePlanRoom : ℕ → HeldPlans → Type 0
-HavePlanRoom n h = plan_table.HasRoom n h.table
+HavePlanRoom n h = plan_table.HasRoomForPlans n h.table

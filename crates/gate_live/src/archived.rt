@@ -1,7 +1,7 @@
 //! Reads of past rows (`Archive`). The book below answers them all, since only live rows are held in memory.
 ghost use Rattle.std.specs.Prelude.{◌≡◌, false, true, length, IfErr};
 ghost use Rattle.gate_types.specs.Tap.{has_failed};
-ghost use Rattle.gate_book_trait.specs.Writes.{Stops};
+ghost use Rattle.gate_book_trait.specs.Writes.{StopsHistoryWriter};
 ghost use Rattle.gate_archive.specs.ItemText.{builds_of, last_builds, left_at};
 ghost use Rattle.gate_archive.specs.Writes.{StopsFeed, WritesFeed, WritesHistoryFrom};
 ghost use Rattle.gate_live.specs.Both.{AreBothKept, HoldsNothing, IsReadOfBoth, OfBoth};
@@ -60,7 +60,7 @@ impl<B: Archive> Archive for LiveBook<B> {
         requires { has_failed w.old ≡ false }
         ensures found { OfBoth B.IsTrusted B.Holds self.old self.new (λ _ x.
             WritesHistoryFrom x.state queue.now from front.now W.contents w.old w.new result) }
-        ensures stops { Stops w.old w.new result }
+        ensures stops { StopsHistoryWriter w.old w.new result }
         ensures kept { AreBothKept B.IsTrusted B.Holds B.LeavesOneOf self.old self.new }
         ensures drops { IfErr result (λ f. history_may_be_of_store f ≡ true → HoldsNothing self.new) }
     {

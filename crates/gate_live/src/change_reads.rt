@@ -122,9 +122,9 @@ fn needing_held(
     above: u64,
 ) -> Option<Sequence<Item>>
     requires kept { AreKeptChanges held.now }
-    requires queue { queue_table.IsKept queue.now }
+    requires queue { queue_table.IsKeptQueueTable queue.now }
     ensures { IfSome result (λ found. (all : List ChangeRow) → AreRowsOf (changes_held held.now) all →
-        found ≡ needing_in all change above (queue_table.rows_of queue.now).items) }
+        found ≡ needing_in all change above (queue_table.rows_of_table queue.now).items) }
 {
     match held.needing(alloc, queue, change, above) {
         Ok(found) => found,
@@ -145,10 +145,10 @@ pub(crate) fn needing<B: Book>(
     above: u64,
 ) -> Result<Sequence<Item>, BookFault>
     requires kept { AreKeptChanges held.old }
-    requires queue { queue_table.IsKept rows.now }
+    requires queue { queue_table.IsKeptQueueTable rows.now }
     ensures reads { IsRead B.IsTrusted B.Holds B.LeavesOneOf (MayAnswer B.MayFault) book.old book.new (λ c x.
         AreRowsOf (changes_held held.old) (tables c x).changes →
-        (queue_table.rows_of rows.now).items ≡ read.items_in c x.state queue.now →
+        (queue_table.rows_of_table rows.now).items ≡ read.items_in c x.state queue.now →
         read.Answers (read.items_needing x.state change above (read.items_in c x.state queue.now)) result) result }
     ensures rows { OfHeld B.IsTrusted B.Holds book.old book.new (λ c x.
         AreRowsOf (changes_held held.old) (tables c x).changes →

@@ -8,7 +8,7 @@ ghost use Rattle.gate_book_trait.specs.Faults.{MayAnswer};
 ghost use Rattle.gate_book_trait.specs.Reading.{IsRead, IsReadUnder};
 ghost use Rattle.gate_book_trait.specs.RowReads.{rows_named};
 ghost use Rattle.gate_live.specs.Live.{live_queue};
-ghost use Rattle.gate_live.specs.Held.{AreKept, IsKeptQueue, IsLiveOf, live_of, queue_of};
+ghost use Rattle.gate_live.specs.Held.{AreKeptQueues, IsKeptQueue, IsLiveOf, live_of, queue_of};
 ghost use Rattle.gate_live.specs.Both.{HoldsNothing, IsKeptUnder};
 
 use crate::change_reads::read_ready;
@@ -107,7 +107,7 @@ fn read_all<B: Book>(
 ) -> Result<Option<Held>, BookFault>
     ensures reads { IsReadUnder B.IsTrusted B.Holds B.LeavesOneOf (MayAnswer B.MayFault) book.old book.new config.now
         (λ x. IfOk result (λ held. IsLiveOf (option_map live_of held) config.now x)) result }
-    ensures sound { IfOk result (λ held. IfSome held AreKept) }
+    ensures sound { IfOk result (λ held. IfSome held AreKeptQueues) }
 {
     let Some(queues) = read_queues(alloc, book, config.queues.as_slice())? else {
         return Ok(None);

@@ -8,7 +8,7 @@ ghost use Rattle.gate_memory.specs.Queues as queue_table;
 ghost use Rattle.gate_memory.specs.HeldQueues.{live_queued};
 ghost use Rattle.gate_memory.specs.Named.{items_found};
 ghost use Rattle.gate_live.specs.Live.{edited_live, fold_live, live_named, live_items};
-ghost use Rattle.gate_live.specs.Held.{HasRoom, AreKept, IsKeptQueue, live_of, queue_of};
+ghost use Rattle.gate_live.specs.Held.{HasRoomInEach, AreKeptQueues, IsKeptQueue, live_of, queue_of};
 
 use crate::held_queue::HeldQueue;
 use gate_book_trait::QueuedItem;
@@ -33,7 +33,7 @@ impl Held {
     pub(crate) fn new(queues: Vec<HeldQueue>, counters: Counters) -> Held
         requires { AllByRecursion IsKeptQueue queues.items }
         ensures rows { live_of result ≡ record { queues = map queue_of queues.items; counters = counters } }
-        ensures kept { AreKept result }
+        ensures kept { AreKeptQueues result }
     {
         Held {
             queues,
@@ -43,10 +43,10 @@ impl Held {
 
     /// Allocates room for `n` edits. Fails if memory is refused. Either way, the held rows stay unchanged.
     pub(crate) fn make_room(&mut self, n: usize) -> Result<(), AllocError>
-        requires { AreKept self.old }
+        requires { AreKeptQueues self.old }
         ensures rows { live_of self.new ≡ live_of self.old }
-        ensures kept { AreKept self.new }
-        ensures room { OnOk result (HasRoom n self.new) }
+        ensures kept { AreKeptQueues self.new }
+        ensures room { OnOk result (HasRoomInEach n self.new) }
     {
         make_queues_room(&mut self.queues, n)?;
         Ok(())
@@ -54,11 +54,11 @@ impl Held {
 
     /// Applies an edit. Each queue must have room for one more item.
     fn apply(&mut self, edit: &Edit)
-        requires kept { AreKept self.old }
-        requires room { HasRoom 1 self.old }
+        requires kept { AreKeptQueues self.old }
+        requires room { HasRoomInEach 1 self.old }
         ensures rows { live_of self.new ≡ edited_live (live_of self.old) edit.now }
-        ensures kept { AreKept self.new }
-        ensures room { (n : ℕ) → HasRoom (suc n) self.old → HasRoom n self.new }
+        ensures kept { AreKeptQueues self.new }
+        ensures room { (n : ℕ) → HasRoomInEach (suc n) self.old → HasRoomInEach n self.new }
     {
         apply_to_queues(&mut self.queues, edit);
         self.drawn.apply(edit);
@@ -66,10 +66,10 @@ impl Held {
 
     /// Applies all edits. Each queue must have room for one more item per edit, so this can't fail.
     pub(crate) fn apply_all(&mut self, edits: &[Edit])
-        requires kept { AreKept self.old }
-        requires room { HasRoom (length edits.now) self.old }
+        requires kept { AreKeptQueues self.old }
+        requires room { HasRoomInEach (length edits.now) self.old }
         ensures rows { live_of self.new ≡ fold_live (live_of self.old) edits.now }
-        ensures kept { AreKept self.new }
+        ensures kept { AreKeptQueues self.new }
     {
         for edit in edits {
             self.apply(edit);
@@ -78,7 +78,7 @@ impl Held {
 
     /// Finds the queue of this name, given as text.
     fn queue_called(&self, name: &str) -> Option<&HeldQueue>
-        requires { AreKept self.now }
+        requires { AreKeptQueues self.now }
         ensures found { option_map queue_of (option_copied result) ≡ live_named (live_of self.now).queues name.now }
         ensures kept { IfSome result (λ q. IsKeptQueue q.now) }
     {
@@ -87,7 +87,7 @@ impl Held {
 
     /// Finds the queue of this name.
     fn queue_named(&self, name: &Name) -> Option<&HeldQueue>
-        requires { AreKept self.now }
+        requires { AreKeptQueues self.now }
         ensures found { option_map queue_of (option_copied result) ≡ live_named (live_of self.now).queues name.now }
         ensures kept { IfSome result (λ q. IsKeptQueue q.now) }
     {
@@ -95,7 +95,7 @@ impl Held {
     }
 
     pub(crate) fn queues(&self) -> &[HeldQueue]
-        requires { AreKept self.now }
+        requires { AreKeptQueues self.now }
         ensures rows { map queue_of result.now ≡ (live_of self.now).queues }
         ensures kept { AllByRecursion IsKeptQueue result.now }
     {
@@ -104,13 +104,13 @@ impl Held {
 
     /// The table of a queue: its window and its items. `None` if no queue has the name.
     pub(crate) fn table_of(&self, queue: &Name) -> Option<&QueueTable>
-        requires { AreKept self.now }
-        ensures items { IfSome result (λ table. (queue_table.rows_of table.now).items
+        requires { AreKeptQueues self.now }
+        ensures items { IfSome result (λ table. (queue_table.rows_of_table table.now).items
             ≡ live_items (live_of self.now).queues queue.now) }
         ensures found { items_found (option_copied result) ≡ live_items (live_of self.now).queues queue.now }
-        ensures window { option_map (λ q. q.window) (option_map queue_table.rows_of (option_copied result))
+        ensures window { option_map (λ q. q.window) (option_map queue_table.rows_of_table (option_copied result))
             ≡ option_map (λ l. l.rows.window) (live_named (live_of self.now).queues queue.now) }
-        ensures kept { IfSome result (λ table. queue_table.IsKept table.now) }
+        ensures kept { IfSome result (λ table. queue_table.IsKeptQueueTable table.now) }
     {
         match self.queue_named(queue) {
             Some(queue) => Some(queue.table()),
@@ -119,7 +119,7 @@ impl Held {
     }
 
     pub(crate) fn landing_count(&self, queue: &Name) -> u64
-        requires { AreKept self.now }
+        requires { AreKeptQueues self.now }
         ensures { result ≡ option_map_or (λ l. l.landings) (live_named (live_of self.now).queues queue.now) 0 }
     {
         match self.queue_named(queue) {
@@ -129,7 +129,7 @@ impl Held {
     }
 
     pub(crate) fn report_count(&self, queue: &Name) -> u64
-        requires { AreKept self.now }
+        requires { AreKeptQueues self.now }
         ensures { result ≡ option_map_or (λ l. l.reports) (live_named (live_of self.now).queues queue.now) 0 }
     {
         match self.queue_named(queue) {
@@ -139,7 +139,7 @@ impl Held {
     }
 
     pub(crate) fn item(&self, serial: Serial) -> Option<Item>
-        requires { AreKept self.now }
+        requires { AreKeptQueues self.now }
         ensures { result ≡ option_map (λ k. k.item)
             (find (λ k. k.item.serial == serial) (live_queued (live_of self.now).queues)) }
     {
@@ -147,7 +147,7 @@ impl Held {
     }
 
     pub(crate) fn queued(&self, change: ChangeNo) -> Result<Option<QueuedItem>, NoMemory>
-        requires { AreKept self.now }
+        requires { AreKeptQueues self.now }
         ensures { IfOk result (λ found. found
             ≡ find (λ k. k.item.change == change) (live_queued (live_of self.now).queues)) }
     {
@@ -162,7 +162,7 @@ impl Held {
         above: u64,
         last: Serial,
     ) -> Result<Sequence<Item>, NoMemory>
-        requires { AreKept self.now }
+        requires { AreKeptQueues self.now }
         ensures { IfOk result (λ found. found
             ≡ read.items_between above last (live_items (live_of self.now).queues queue.now)) }
     {

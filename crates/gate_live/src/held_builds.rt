@@ -7,10 +7,10 @@ ghost use Rattle.gate_types.specs.declared.edits.Edit.TheVariants as edit;
 ghost use Rattle.gate_types.specs.State.{put_by};
 ghost use Rattle.gate_types.specs.Rising.{RisesFrom};
 ghost use Rattle.gate_memory.specs.Builds as build_table;
-ghost use Rattle.gate_memory.specs.Builds.{is_live_of, number_of};
+ghost use Rattle.gate_memory.specs.Builds.{is_live_of, number_of_build};
 ghost use Rattle.gate_memory.specs.TableReads.{builds_of_rows};
 ghost use Rattle.gate_live.specs.HeldBuilds.{AreBuildsKept, AreBuildsOf, HaveBuildRoom, edited_held, is_live_known};
-ghost use Rattle.gate_live.specs.HeldBuilds.{known_of, knows, put_all, serial_of};
+ghost use Rattle.gate_live.specs.HeldBuilds.{known_of, knows, put_in_turn, serial_of};
 
 use gate_memory::{BuildTable, Keyed, at, builds_of, put, remove};
 use gate_types::names::NoMemory;
@@ -55,10 +55,10 @@ fn copies(alloc: Global, builds: &[Build]) -> Result<Vec<Build>, NoMemory>
 
 /// Puts builds one after another. There must be room for all of them.
 fn put_builds(builds: &mut BuildTable, found: Vec<Build>)
-    requires kept { build_table.AreKept builds.old }
+    requires kept { build_table.IsKeptBuildTable builds.old }
     requires room { build_table.HaveRoom (length found.items) builds.old }
-    ensures rows { builds.new.rows.items ≡ put_all found.items builds.old.rows.items }
-    ensures kept { build_table.AreKept builds.new }
+    ensures rows { builds.new.rows.items ≡ put_in_turn found.items builds.old.rows.items }
+    ensures kept { build_table.IsKeptBuildTable builds.new }
 {
     for build in found {
         builds.put(build);
@@ -174,7 +174,8 @@ impl HeldBuilds {
     /// Holds copies of all live builds of an item, which is known from then on. If memory is refused, nothing changes.
     pub(crate) fn hold(&mut self, alloc: Global, serial: Serial, found: &[Build])
         requires { AreBuildsKept self.old }
-        ensures held { (all : List Build) → RisesFrom number_of 0 all → found.now ≡ filter (is_live_of serial) all →
+        ensures held { (all : List Build) → RisesFrom number_of_build 0 all →
+            found.now ≡ filter (is_live_of serial) all →
             AreBuildsOf (known_of self.old) all → AreBuildsOf (known_of self.new) all }
         ensures kept { AreBuildsKept self.new }
     {
@@ -191,7 +192,7 @@ impl HeldBuilds {
         requires room { HaveBuildRoom (length found.items) self.old }
         requires one { vec_len self.old.known < vec_capacity self.old.known }
         ensures rows { known_of self.new ≡ record {
-          rows = put_all found.items (known_of self.old).rows;
+          rows = put_in_turn found.items (known_of self.old).rows;
           known = put_by serial_of (record { serial = serial }) (known_of self.old).known;
         } }
         ensures kept { AreBuildsKept self.new }

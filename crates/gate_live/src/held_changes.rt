@@ -6,12 +6,12 @@ ghost use Rattle.gate_types.specs.Keys.{number_of_change};
 ghost use Rattle.gate_types.specs.declared.rows.ChangeRow.{ChangeRow};
 ghost use Rattle.gate_book_trait.specs.RowReads.{approval_in, change_in, needing_in};
 ghost use Rattle.gate_memory.specs.Changes.{IsWhatRowsTell};
-ghost use Rattle.gate_memory.specs.Needs.{needs_of, needs_of_all};
+ghost use Rattle.gate_memory.specs.Needs.{needs_brought, needs_of_all};
 ghost use Rattle.gate_memory.specs.Queues as queue_table;
 ghost use Rattle.gate_memory.specs.TableReads.{IsWhatRowsTellOf};
 ghost use Rattle.gate_live.specs.HeldChanges.{AreRowsOf, AreKeptChanges, HasRoomFor, change_touched, changes_held};
 ghost use Rattle.gate_live.specs.HeldChanges.{edited_rows, fold_rows, has_row, has_rows_of, is_of_changes, items_above};
-ghost use Rattle.gate_live.specs.HeldChanges.{unready, with_row, without_change};
+ghost use Rattle.gate_live.specs.HeldChanges.{unready_row, with_row, without_change};
 
 use gate_memory::{ChangeTable, QueueTable, count_needs, needing_of};
 use gate_types::edits::Edit;
@@ -141,10 +141,10 @@ impl HeldChanges {
     /// needs.
     fn apply(&mut self, edit: Edit)
         requires kept { AreKeptChanges self.old }
-        requires room { HasRoomFor 1 (needs_of edit) self.old }
+        requires room { HasRoomFor 1 (needs_brought edit) self.old }
         ensures rows { changes_held self.new ≡ edited_rows (changes_held self.old) edit }
         ensures kept { AreKeptChanges self.new }
-        ensures room { (n m : ℕ) → HasRoomFor (suc n) (needs_of edit + m) self.old → HasRoomFor n m self.new }
+        ensures room { (n m : ℕ) → HasRoomFor (suc n) (needs_brought edit + m) self.old → HasRoomFor n m self.new }
     {
         match edit {
             Edit::PutChange { change, approval } => self.put(ChangeRow { change, approval }),
@@ -181,7 +181,7 @@ impl HeldChanges {
     fn hold_copy(&mut self, change: &Change) -> Result<(), NoMemory>
         requires { AreKeptChanges self.old }
         ensures rows { OnOk result
-            (changes_held self.new ≡ put_by number_of_change (unready change.now) (changes_held self.old)) }
+            (changes_held self.new ≡ put_by number_of_change (unready_row change.now) (changes_held self.old)) }
         ensures same { OnErr result (changes_held self.new ≡ changes_held self.old) }
         ensures kept { AreKeptChanges self.new }
     {
@@ -269,12 +269,12 @@ impl HeldChanges {
         above: u64,
     ) -> Result<Option<Sequence<Item>>, NoMemory>
         requires kept { AreKeptChanges self.now }
-        requires queue { queue_table.IsKept queue.now }
+        requires queue { queue_table.IsKeptQueueTable queue.now }
         ensures held { IfOk result (λ found. is_some found
-            ≡ has_rows_of (changes_held self.now) (items_above above (queue_table.rows_of queue.now).items)) }
+            ≡ has_rows_of (changes_held self.now) (items_above above (queue_table.rows_of_table queue.now).items)) }
         ensures found { IfOk result (λ found. IfSome found (λ found. (all : List ChangeRow) →
             AreRowsOf (changes_held self.now) all →
-            found ≡ needing_in all change above (queue_table.rows_of queue.now).items)) }
+            found ≡ needing_in all change above (queue_table.rows_of_table queue.now).items)) }
     {
         if !self.has_all(queue.items_behind(above)) {
             return Ok(None);

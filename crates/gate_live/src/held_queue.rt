@@ -58,7 +58,7 @@ impl HeldQueue {
     pub(crate) fn table(&self) -> &QueueTable
         requires { IsKeptQueue self.now }
         ensures table { result.now ≡ self.now.table }
-        ensures kept { queue.IsKept result.now }
+        ensures kept { queue.IsKeptQueueTable result.now }
     {
         &self.table
     }

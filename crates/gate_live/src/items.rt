@@ -1,6 +1,6 @@
 //! Applies edits to the held builds and plans of items. The edits are copied first, so that applying them can't fail.
 ghost use Rattle.std.specs.Prelude.{◌≡◌, ℕ, suc, [], ◌∷◌, ◌++◌, filter, length, option_map, IfOk, IfSome, OnOk};
-ghost use Rattle.gate_live.specs.Held.{AreKept, live_of};
+ghost use Rattle.gate_live.specs.Held.{AreKeptQueues, live_of};
 ghost use Rattle.gate_live.specs.HeldBuilds.{AreBuildsKept, HaveBuildRoom, edited_held, fold_held, known_of};
 ghost use Rattle.gate_live.specs.HeldPlans.{ArePlansKept, HavePlanRoom, edited_held_plans, fold_held_plans, plans_held};
 ghost use Rattle.gate_live.specs.Parts.{holds_item, is_of_items};
@@ -59,7 +59,7 @@ pub(crate) fn copies(alloc: Global, edits: &[Edit]) -> Result<Vec<Edit>, NoMemor
 
 /// Whether the item with this serial is held.
 pub(crate) fn holds_item(held: &Option<Held>, serial: Serial) -> bool
-    requires { IfSome held.now AreKept }
+    requires { IfSome held.now AreKeptQueues }
     ensures { result ≡ holds_item (option_map live_of held.now) serial }
 {
     match held {
@@ -71,7 +71,7 @@ pub(crate) fn holds_item(held: &Option<Held>, serial: Serial) -> bool
 /// Applies an edit to the held builds and plans. There must be room for one more build and one more plan.
 #[tactic(auto, using(crate::proofs::RoomLemmas::build_room_less))]
 fn apply(builds: &mut HeldBuilds, plans: &mut HeldPlans, held: &Option<Held>, edit: Edit)
-    requires held { IfSome held.now AreKept }
+    requires held { IfSome held.now AreKeptQueues }
     requires builds { AreBuildsKept builds.old }
     requires plans { ArePlansKept plans.old }
     requires build_room { HaveBuildRoom 1 builds.old }
@@ -115,7 +115,7 @@ pub(crate) fn apply_to_items(
     held: &Option<Held>,
     edits: Vec<Edit>,
 )
-    requires held { IfSome held.now AreKept }
+    requires held { IfSome held.now AreKeptQueues }
     requires builds { AreBuildsKept builds.old }
     requires plans { ArePlansKept plans.old }
     requires build_room { HaveBuildRoom (length edits.items) builds.old }

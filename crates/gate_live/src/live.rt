@@ -10,7 +10,7 @@ ghost use Rattle.gate_book_trait.specs.Kept.{OfHeld, IsApplied};
 ghost use Rattle.gate_book_trait.specs.Reading.{IsRead};
 ghost use Rattle.gate_book_trait.specs.Reads as read;
 ghost use Rattle.gate_live.specs.Live.{fold_live};
-ghost use Rattle.gate_live.specs.Held.{AreKept, IsLiveOf, live_of};
+ghost use Rattle.gate_live.specs.Held.{AreKeptQueues, IsLiveOf, live_of};
 ghost use Rattle.gate_live.specs.HeldBuilds.{knows};
 ghost use Rattle.gate_live.specs.HeldChanges.{AreChangesOf, AreKeptChanges, changes_held};
 ghost use Rattle.gate_live.specs.Parts.{Agrees, nothing};
@@ -47,7 +47,7 @@ impl Model for Live {
 
     ghost Value = { Parts };
 
-    ghost use Rattle.gate_live.specs.Held.{live_of, AreKept};
+    ghost use Rattle.gate_live.specs.Held.{live_of, AreKeptQueues};
     ghost use Rattle.gate_live.specs.HeldBuilds.{AreBuildsKept, known_of};
     ghost use Rattle.gate_live.specs.HeldChanges.{AreKeptChanges, changes_held};
     ghost use Rattle.gate_live.specs.HeldPlans.{ArePlansKept, plans_held};
@@ -59,14 +59,14 @@ impl Model for Live {
       changes = option_map changes_held l.changes;
     } };
 
-    ghost invariant = { λ l. IfSome l.held AreKept × AreBuildsKept l.builds × ArePlansKept l.plans
+    ghost invariant = { λ l. IfSome l.held AreKeptQueues × AreBuildsKept l.builds × ArePlansKept l.plans
         × IfSome l.changes AreKeptChanges };
 }
 
 /// Applies the edits to the book below and then, if that succeeds, to the held queues and counters. Fails if the book
 /// does or memory is refused; then the held rows stay unchanged.
 fn apply_to_both<B: Book>(book: &mut B, held: &mut Held, edits: &[Edit]) -> Result<(), BookFault>
-    requires { AreKept held.old }
+    requires { AreKeptQueues held.old }
     ensures applied { OfHeld B.IsTrusted B.Holds book.old book.new (λ c x. (y : Content) → IsLawfulContent c y →
         Leads c x edits.now y → IsApplied B.Holds B.LeavesOneOf book.old book.new c x edits.now y result) }
     ensures unchanged { OfHeld B.IsTrusted B.Holds book.old book.new (λ c x. OnErr result (B.Holds book.new c x)) }
@@ -74,7 +74,7 @@ fn apply_to_both<B: Book>(book: &mut B, held: &mut Held, edits: &[Edit]) -> Resu
     ensures fault { IfErr result (MayAnswer B.MayFault) }
     ensures edited { OnOk result (live_of held.new ≡ fold_live (live_of held.old) edits.now) }
     ensures same { OnErr result (live_of held.new ≡ live_of held.old) }
-    ensures kept { AreKept held.new }
+    ensures kept { AreKeptQueues held.new }
 {
     held.make_room(edits.len())?;
     book.apply(edits)?;
@@ -85,7 +85,7 @@ fn apply_to_both<B: Book>(book: &mut B, held: &mut Held, edits: &[Edit]) -> Resu
 /// Applies the edits to the book below and then, if that succeeds, to the queues and counters, if they are held. Fails
 /// if the book does or memory is refused; then the held rows stay unchanged.
 fn apply_to<B: Book>(book: &mut B, held: &mut Option<Held>, edits: &[Edit]) -> Result<(), BookFault>
-    requires { IfSome held.old AreKept }
+    requires { IfSome held.old AreKeptQueues }
     ensures applied { OfHeld B.IsTrusted B.Holds book.old book.new (λ c x. (y : Content) → IsLawfulContent c y →
         Leads c x edits.now y → IsApplied B.Holds B.LeavesOneOf book.old book.new c x edits.now y result) }
     ensures unchanged { OfHeld B.IsTrusted B.Holds book.old book.new (λ c x. OnErr result (B.Holds book.new c x)) }
@@ -94,7 +94,7 @@ fn apply_to<B: Book>(book: &mut B, held: &mut Option<Held>, edits: &[Edit]) -> R
     ensures edited { OnOk result (option_map live_of held.new
         ≡ option_map (λ l. fold_live l edits.now) (option_map live_of held.old)) }
     ensures same { OnErr result (option_map live_of held.new ≡ option_map live_of held.old) }
-    ensures kept { IfSome held.new AreKept }
+    ensures kept { IfSome held.new AreKeptQueues }
 {
     match held {
         Some(held) => apply_to_both(book, held, edits),
@@ -113,7 +113,7 @@ impl Live {
 
     /// Holds these queues and counters, if any, and these changes, if any, but no builds or plans.
     pub(crate) fn of(alloc: Global, held: Option<Held>, changes: Option<HeldChanges>) -> Live
-        requires held { IfSome held AreKept }
+        requires held { IfSome held AreKeptQueues }
         requires changes { IfSome changes AreKeptChanges }
         ensures held { result
             ≡ record nothing { tables = option_map live_of held; changes = option_map changes_held changes } }
@@ -247,7 +247,7 @@ impl Live {
 
     pub(crate) fn last_item(&self, queue: &Name, below: u64) -> Option<Option<Item>>
         ensures found { IfSome result (λ found. (c : Settings) (x : Content) → Agrees self.now c x →
-            found ≡ read.last_below below (read.items_in c x.state queue.now)) }
+            found ≡ read.last_item_below below (read.items_in c x.state queue.now)) }
         ensures falls { IfSome result (λ found. IfSome found (λ i. i.serial < below)) }
     {
         match &self.held {

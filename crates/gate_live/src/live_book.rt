@@ -10,7 +10,7 @@ ghost use Rattle.gate_types.specs.Tap.{has_failed};
 ghost use Rattle.gate_book_trait.specs.Faults.{MayAnswer};
 ghost use Rattle.gate_book_trait.specs.Kept.{IsApplied};
 ghost use Rattle.gate_book_trait.specs.Reads as read;
-ghost use Rattle.gate_book_trait.specs.Writes.{Stops, WritesHistory};
+ghost use Rattle.gate_book_trait.specs.Writes.{StopsHistoryWriter, WritesHistory};
 ghost use Rattle.gate_live.specs.Both.{AreBothKept, HoldsBoth, HoldsNothing, IsReadOfBoth, OfBoth};
 ghost use Rattle.gate_live.specs.Faults.{history_may_be_of_store, is_of_store};
 ghost use Rattle.gate_live.specs.Parts.{Agrees};
@@ -207,7 +207,7 @@ impl<B: Book> Book for LiveBook<B> {
 
     fn last_item(&mut self, queue: &Name, below: u64) -> Result<Option<Item>, BookFault>
         ensures reads { IsReadOfBoth B.IsTrusted B.Holds B.LeavesOneOf B.MayFault self.old self.new (λ c x.
-            read.last_below below (read.items_in c x.state queue.now)) result }
+            read.last_item_below below (read.items_in c x.state queue.now)) result }
         ensures falls { IfOk result (λ found. IfSome found (λ i. i.serial < below)) }
         ensures drops { IfErr result (λ f. is_of_store f ≡ true → HoldsNothing self.new) }
     {
@@ -396,7 +396,7 @@ impl<B: Book> Book for LiveBook<B> {
         requires { has_failed w.old ≡ false }
         ensures found { OfBoth B.IsTrusted B.Holds self.old self.new (λ _ x.
             WritesHistory x.state queue.now front.now W.contents w.old w.new result) }
-        ensures stops { Stops w.old w.new result }
+        ensures stops { StopsHistoryWriter w.old w.new result }
         ensures kept { AreBothKept B.IsTrusted B.Holds B.LeavesOneOf self.old self.new }
         ensures drops { IfErr result (λ f. history_may_be_of_store f ≡ true → HoldsNothing self.new) }
     {

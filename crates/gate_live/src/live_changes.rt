@@ -12,7 +12,7 @@ ghost use Rattle.gate_book_trait.specs.Kept.{OfHeld};
 ghost use Rattle.gate_book_trait.specs.Reading.{IsRead};
 ghost use Rattle.gate_book_trait.specs.Reads as read;
 ghost use Rattle.gate_book_trait.specs.RowReads.{change_in};
-ghost use Rattle.gate_live.specs.Held.{AreKept, IsKeptQueue, IsLiveOf, live_of, queue_of};
+ghost use Rattle.gate_live.specs.Held.{AreKeptQueues, IsKeptQueue, IsLiveOf, live_of, queue_of};
 ghost use Rattle.gate_live.specs.HeldChanges.{AnyAreHeldOf, AreChangesOf, AreRowsOf, AreKeptChanges, HasRoomFor};
 ghost use Rattle.gate_live.specs.HeldChanges.{changes_held, is_of_changes, queues_held, rows_edited};
 
@@ -65,7 +65,7 @@ pub(crate) fn prepare(
 
 /// The held queues, or an empty slice if none are held.
 fn queues_of(held: &Option<Held>) -> &[HeldQueue]
-    requires { IfSome held.now AreKept }
+    requires { IfSome held.now AreKeptQueues }
     ensures rows { map queue_of result.now ≡ queues_held held.now }
     ensures kept { AllByRecursion IsKeptQueue result.now }
 {
@@ -83,7 +83,7 @@ pub(crate) fn edit(
     copies: Vec<Edit>,
     edits: &[Edit],
 )
-    requires held { IfSome held.now AreKept }
+    requires held { IfSome held.now AreKeptQueues }
     requires kept { IfSome changes.old AreKeptChanges }
     requires copies { copies.items ≡ filter is_of_changes edits.now }
     requires room { IfSome changes.old (HasRoomFor (length copies.items) (needs_of_all copies.items)) }
@@ -99,7 +99,7 @@ pub(crate) fn edit(
 
 /// Holds a copy of a change, if an item of the held queues has it. If memory is refused, nothing changes.
 fn hold_known(changes: &mut HeldChanges, held: &Option<Held>, change: &Change)
-    requires held { IfSome held.now AreKept }
+    requires held { IfSome held.now AreKeptQueues }
     requires kept { AreKeptChanges changes.old }
     ensures held { (all : List ChangeRow) → Some change.now ≡ change_in all change.now.number →
         AreRowsOf (changes_held changes.old) all → AreRowsOf (changes_held changes.new) all }
@@ -117,7 +117,7 @@ pub(crate) fn hold_found(
     held: &Option<Held>,
     found: &Option<Change>,
 )
-    requires held { IfSome held.now AreKept }
+    requires held { IfSome held.now AreKeptQueues }
     requires kept { IfSome changes.old AreKeptChanges }
     ensures held { (number : ℕ) (all : List ChangeRow) → found.now ≡ change_in all number →
         AnyAreHeldOf (option_map changes_held changes.old) all →
@@ -133,11 +133,11 @@ pub(crate) fn hold_found(
 
 /// The table of a queue. `None` if the queue isn't held.
 fn table_of<'a>(held: &'a Option<Held>, queue: &Name) -> Option<&'a QueueTable>
-    requires { IfSome held.now AreKept }
+    requires { IfSome held.now AreKeptQueues }
     ensures items { IfSome result (λ table. (c : Settings) (x : Content) →
         IsLiveOf (option_map live_of held.now) c x →
-        (queue_table.rows_of table.now).items ≡ read.items_in c x.state queue.now) }
-    ensures kept { IfSome result (λ table. queue_table.IsKept table.now) }
+        (queue_table.rows_of_table table.now).items ≡ read.items_in c x.state queue.now) }
+    ensures kept { IfSome result (λ table. queue_table.IsKeptQueueTable table.now) }
 {
     match held {
         Some(held) => held.table_of(queue),
@@ -157,7 +157,7 @@ pub(crate) fn needing_over<B: Book>(
     change: ChangeNo,
     above: u64,
 ) -> Result<Sequence<Item>, BookFault>
-    requires held { IfSome held.now AreKept }
+    requires held { IfSome held.now AreKeptQueues }
     requires kept { IfSome changes.old AreKeptChanges }
     ensures reads { IsRead B.IsTrusted B.Holds B.LeavesOneOf (MayAnswer B.MayFault) book.old book.new (λ c x.
         IsLiveOf (option_map live_of held.now) c x →

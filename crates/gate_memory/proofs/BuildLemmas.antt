@@ -12,7 +12,7 @@ use Rattle.gate_types.proofs.PlainLemmas.{below_or}
 use Rattle.gate_memory.specs.declared.pairs.Pair.{Pair}
 use Rattle.gate_memory.specs.Sorted.{without}
 use Rattle.gate_memory.specs.Pairs.{pair_key, IsFit}
-use Rattle.gate_memory.specs.Builds.{TellsLive, number_of, is_live_of, pair_of}
+use Rattle.gate_memory.specs.Builds.{TellsLive, number_of_build, is_live_of, pair_of}
 use Rattle.gate_memory.proofs.PairLemmas.{same_pair, seconds_of, second_in}
 use Rattle.gate_memory.proofs.CollectLemmas.{AreTold}
 use Rattle.gate_memory.proofs.SortedLemmas.{put_first, put_before, put_after}
@@ -70,9 +70,9 @@ all_without P key n (y ∷ ys) all = by_key (key y == n) (all_without P key n ys
 -- ---- builds
 
 -- a build put, and its pair
-pub tells_put : (pairs : List Pair) (b : Build) (builds : List Build) → AllByRecursion IsFit pairs → IsFit (pair_of b) → TellsLive pairs builds → TellsLive (put_by pair_key (pair_of b) pairs) (put_by number_of b builds)
+pub tells_put : (pairs : List Pair) (b : Build) (builds : List Build) → AllByRecursion IsFit pairs → IsFit (pair_of b) → TellsLive pairs builds → TellsLive (put_by pair_key (pair_of b) pairs) (put_by number_of_build b builds)
 tells_put pairs b builds fit small told =
-    all_put (λ x. x.live ≡ true → In (pair_of x) (put_by pair_key (pair_of b) pairs)) number_of b builds (λ _. in_put pair_key (pair_of b) pairs)
+    all_put (λ x. x.live ≡ true → In (pair_of x) (put_by pair_key (pair_of b) pairs)) number_of_build b builds (λ _. in_put pair_key (pair_of b) pairs)
     (in_weaker (λ x. x.live ≡ true → In (pair_of x) pairs) (λ x. x.live ≡ true → In (pair_of x) (put_by pair_key (pair_of b) pairs))
     (λ x h live. still_in pair_key (pair_of b) (pair_of x) pairs (λ e. same_pair (pair_of x) (pair_of b) (all_in IsFit pairs (pair_of x) fit (h live)) small e) (h live))
     builds told)
@@ -99,7 +99,7 @@ tells_stopped pairs p n f (b ∷ bs) fit small second dead told = (by_number (b.
         (λ k. absurd (false≢true (sym e ∙ eq-eqb b.number n (ap (λ (q : Pair). q.second) (same_pair (pair_of b) p (all_in IsFit pairs (pair_of b) fit there) small k) ∙ second)))) there
 
 -- each live build of a serial has its number in the index
-pub live_are_told : (serial : ℕ) (pairs : List Pair) (builds : List Build) → TellsLive pairs builds → AreTold number_of (is_live_of serial) builds (seconds_of serial pairs)
+pub live_are_told : (serial : ℕ) (pairs : List Pair) (builds : List Build) → TellsLive pairs builds → AreTold number_of_build (is_live_of serial) builds (seconds_of serial pairs)
 live_are_told serial pairs [] told = tt
 live_are_told serial pairs (b ∷ bs) told = (by_live b.live refl, live_are_told serial pairs bs told.1)
   where

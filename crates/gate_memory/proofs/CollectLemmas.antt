@@ -5,7 +5,7 @@ use Rattle.std.specs.Prelude.{◌==◌, filter, find, option_and_then}
 use Rattle.std.specs.List.{AllByRecursion, filter_map, cons_option}
 use Rattle.std.proofs.lemmas.Bool.{eq-eqb, ne_eqb}
 use Rattle.gate_types.specs.Rising.{RisesFrom, In}
-use Rattle.gate_memory.specs.Sorted.{kept_if, passing}
+use Rattle.gate_memory.specs.Sorted.{kept_if, passing_at}
 use Rattle.gate_memory.proofs.SortedLemmas.{found_above, in_above}
 use Rattle.gate_types.proofs.PlainLemmas.{below_or}
 
@@ -29,11 +29,11 @@ told_rest key test k n (x ∷ xs) ns l rise told =
     ((λ t. in_rest (key x) n ns (λ e. omega (arith, e)) (told.0 t)), told_rest key test (suc (key x)) n xs ns (omega arith) rise.1 told.1)
 
 -- a row is no other's
-passing_other : {X : Type 0} (key : X → ℕ) (test : X → Bool) (x : X) (xs : List X) (n : ℕ) → key x ≢ n → passing key test (x ∷ xs) n ≡ passing key test xs n
+passing_other : {X : Type 0} (key : X → ℕ) (test : X → Bool) (x : X) (xs : List X) (n : ℕ) → key x ≢ n → passing_at key test (x ∷ xs) n ≡ passing_at key test xs n
 passing_other key test x xs n ne = ap (λ t. option_and_then (kept_if test) (cond t (Some x) (find (λ y. key y == n) xs))) (ne_eqb (key x) n ne)
 
 -- so none of the numbers above a row finds it
-others_pass : {X : Type 0} (key : X → ℕ) (test : X → Bool) (x : X) (xs : List X) (k : ℕ) (ns : List ℕ) → key x < k → Rising k ns → filter_map (passing key test (x ∷ xs)) ns ≡ filter_map (passing key test xs) ns
+others_pass : {X : Type 0} (key : X → ℕ) (test : X → Bool) (x : X) (xs : List X) (k : ℕ) (ns : List ℕ) → key x < k → Rising k ns → filter_map (passing_at key test (x ∷ xs)) ns ≡ filter_map (passing_at key test xs) ns
 others_pass key test x xs k [] l rise = refl
 others_pass key test x xs k (n ∷ ns) l rise =
     let low : k ≤ n = rise.0 in
@@ -47,7 +47,7 @@ none_pass key test (x ∷ xs) told = by_test (test x) told.0 (none_pass key test
     by_test true never rest = absurd (never refl)
     by_test false never rest = rest
 
-nothing_found : {X : Type 0} (key : X → ℕ) (test : X → Bool) (ns : List ℕ) → filter_map (passing key test []) ns ≡ []
+nothing_found : {X : Type 0} (key : X → ℕ) (test : X → Bool) (ns : List ℕ) → filter_map (passing_at key test []) ns ≡ []
 nothing_found key test [] = refl
 nothing_found key test (n ∷ ns) = nothing_found key test ns
 
@@ -60,7 +60,7 @@ skips_row key test x xs k ns l rise told = by_test (test x) told
     by_test false told = refl
 
 -- a row at the first of the numbers is what that number finds
-takes_row : {X : Type 0} (key : X → ℕ) (test : X → Bool) (x : X) (xs : List X) (n : ℕ) (found : List X) → key x ≡ n → found ≡ filter test xs → cons_option (passing key test (x ∷ xs) n) found ≡ filter test (x ∷ xs)
+takes_row : {X : Type 0} (key : X → ℕ) (test : X → Bool) (x : X) (xs : List X) (n : ℕ) (found : List X) → key x ≡ n → found ≡ filter test xs → cons_option (passing_at key test (x ∷ xs) n) found ≡ filter test (x ∷ xs)
 takes_row key test x xs n found e rest =
     ap (λ t. cons_option (option_and_then (kept_if test) (cond t (Some x) (find (λ y. key y == n) xs))) found) (eq-eqb (key x) n e) ∙ by_test (test x)
   where
@@ -69,21 +69,21 @@ takes_row key test x xs n found e rest =
     by_test false = rest
 
 -- one row more, along all the numbers
-along : {X : Type 0} (key : X → ℕ) (test : X → Bool) (x : X) (xs : List X) → RisesFrom key (suc (key x)) xs → ((k : ℕ) (ns : List ℕ) → Rising k ns → AreTold key test xs ns → filter_map (passing key test xs) ns ≡ filter test xs) → (k : ℕ) (ns : List ℕ) → Rising k ns → AreTold key test (x ∷ xs) ns → filter_map (passing key test (x ∷ xs)) ns ≡ filter test (x ∷ xs)
+along : {X : Type 0} (key : X → ℕ) (test : X → Bool) (x : X) (xs : List X) → RisesFrom key (suc (key x)) xs → ((k : ℕ) (ns : List ℕ) → Rising k ns → AreTold key test xs ns → filter_map (passing_at key test xs) ns ≡ filter test xs) → (k : ℕ) (ns : List ℕ) → Rising k ns → AreTold key test (x ∷ xs) ns → filter_map (passing_at key test (x ∷ xs)) ns ≡ filter test (x ∷ xs)
 along key test x xs up rest k [] rise told = sym (none_pass key test (x ∷ xs) told)
 along key test x xs up rest k (n ∷ ns) rise told = ⊎_elim
-    (λ l. ap (λ o. cons_option (option_and_then (kept_if test) o) (filter_map (passing key test (x ∷ xs)) ns)) (found_above key n (key x) (x ∷ xs) l (omega arith, up))
+    (λ l. ap (λ o. cons_option (option_and_then (kept_if test) o) (filter_map (passing_at key test (x ∷ xs)) ns)) (found_above key n (key x) (x ∷ xs) l (omega arith, up))
     ∙ along key test x xs up rest (suc n) ns rise.1 (told_rest key test (key x) n (x ∷ xs) ns l (omega arith, up) told))
     (λ l. ⊎_elim
     (λ m. others_pass key test x xs n (n ∷ ns) m (omega arith, rise.1) ∙ rest n (n ∷ ns) (omega arith, rise.1) told.1 ∙ skips_row key test x xs n (n ∷ ns) m (omega arith, rise.1) told.0)
     (λ m. let e : key x ≡ n = omega arith in
-    takes_row key test x xs n (filter_map (passing key test (x ∷ xs)) ns) e
+    takes_row key test x xs n (filter_map (passing_at key test (x ∷ xs)) ns) e
     (others_pass key test x xs (suc n) ns (omega arith) rise.1 ∙ rest (suc n) ns rise.1 (told_rest key test (suc (key x)) n xs ns (omega arith) up told.1)))
     (below_or (key x) n))
     (below_or n (key x))
 
 -- the rows that pass are those that the numbers find
-pub collected : {X : Type 0} (key : X → ℕ) (test : X → Bool) (m : ℕ) (xs : List X) → RisesFrom key m xs → (k : ℕ) (ns : List ℕ) → Rising k ns → AreTold key test xs ns → filter_map (passing key test xs) ns ≡ filter test xs
+pub collected : {X : Type 0} (key : X → ℕ) (test : X → Bool) (m : ℕ) (xs : List X) → RisesFrom key m xs → (k : ℕ) (ns : List ℕ) → Rising k ns → AreTold key test xs ns → filter_map (passing_at key test xs) ns ≡ filter test xs
 collected key test m [] up k ns rise told = nothing_found key test ns
 collected key test m (x ∷ xs) up k ns rise told = along key test x xs up.1 (collected key test (suc (key x)) xs up.1) k ns rise told
 

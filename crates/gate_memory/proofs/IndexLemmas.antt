@@ -18,7 +18,7 @@ use Rattle.gate_book_trait.proofs.Finding.{all_in}
 use Rattle.gate_memory.specs.declared.pairs.Pair.{Pair}
 use Rattle.gate_memory.specs.Sorted.{without}
 use Rattle.gate_memory.specs.Pairs.{pair_key, IsFit}
-use Rattle.gate_memory.specs.Builds.{Indexes, number_of, is_of, pair_of}
+use Rattle.gate_memory.specs.Builds.{Indexes, number_of_build, is_build_of, pair_of}
 use Rattle.gate_memory.proofs.SortedLemmas.{put_first, put_before, put_after, in_above, one_key, rises-put}
 use Rattle.gate_memory.proofs.SortedLemmas.{rises-without, rises-filter, same_rows}
 use Rattle.gate_memory.proofs.PairLemmas.{same_pair, seconds_of, second_in, seconds_rise, filter_map_seconds}
@@ -87,8 +87,8 @@ without_absent {X} key n (x ∷ xs) e = by_key (key x == n) e (without_absent ke
 -- ---- the index
 
 -- a build dropped, and its pair
-pub index_forgets : (pairs : List Pair) (b : Build) (builds : List Build) → RisesFrom number_of 0 builds → In b builds →
-    Indexes pairs builds → Indexes (without pair_key (pair_key (pair_of b)) pairs) (without number_of b.number builds)
+pub index_forgets : (pairs : List Pair) (b : Build) (builds : List Build) → RisesFrom number_of_build 0 builds → In b builds →
+    Indexes pairs builds → Indexes (without pair_key (pair_key (pair_of b)) pairs) (without number_of_build b.number builds)
 index_forgets pairs b builds up here index = record {
   rise = rises-without pair_key (pair_key (pair_of b)) 0 pairs index.rise;
   fit = all_without IsFit pair_key (pair_key (pair_of b)) pairs index.fit;
@@ -98,48 +98,48 @@ index_forgets pairs b builds up here index = record {
     fits : (x : Build) → In x builds → IsFit (pair_of x)
     fits x t = all_in IsFit pairs (pair_of x) index.fit (index.told.there x t)
 
-    there : (x : Build) → In x (without number_of b.number builds) → In (pair_of x) (without pair_key (pair_key (pair_of b)) pairs)
+    there : (x : Build) → In x (without number_of_build b.number builds) → In (pair_of x) (without pair_key (pair_key (pair_of b)) pairs)
     there x t =
-        let r = from_filter (λ (y : Build). not (number_of y == b.number)) x builds t in
+        let r = from_filter (λ (y : Build). not (number_of_build y == b.number)) x builds t in
         in_without pair_key (pair_key (pair_of b)) (pair_of x) pairs
-        (λ e. other number_of b.number x r.1 (ap (λ (q : Pair). q.second) (same_pair (pair_of x) (pair_of b) (fits x r.0) (fits b here) e)))
+        (λ e. other number_of_build b.number x r.1 (ap (λ (q : Pair). q.second) (same_pair (pair_of x) (pair_of b) (fits x r.0) (fits b here) e)))
         (index.told.there x r.0)
 
     back : (p : Pair) → In p (without pair_key (pair_key (pair_of b)) pairs) →
-        (x : Build) × In x (without number_of b.number builds) × (pair_of x ≡ p)
+        (x : Build) × In x (without number_of_build b.number builds) × (pair_of x ≡ p)
     back p t =
         let r = from_filter (λ (q : Pair). not (pair_key q == pair_key (pair_of b))) p pairs t in
         let x = index.told.back p r.0 in (
           x.0,
-          in_filter (λ (y : Build). not (number_of y == b.number)) x.0 builds
-              (stays number_of b.number x.0 (λ e. other pair_key (pair_key (pair_of b)) p r.1
-              (ap pair_key (sym x.2 ∙ ap pair_of (one_key number_of 0 x.0 b builds up x.1 here e))))) x.1,
+          in_filter (λ (y : Build). not (number_of_build y == b.number)) x.0 builds
+              (stays number_of_build b.number x.0 (λ e. other pair_key (pair_key (pair_of b)) p r.1
+              (ap pair_key (sym x.2 ∙ ap pair_of (one_key number_of_build 0 x.0 b builds up x.1 here e))))) x.1,
           x.2,
         )
 
 -- a build put where none has its number, and its pair
-pub index_notes : (pairs : List Pair) (b : Build) (builds : List Build) → RisesFrom number_of 0 builds → IsFit (pair_of b) →
-    Indexes pairs (without number_of b.number builds) →
-    Indexes (put_by pair_key (pair_of b) pairs) (put_by number_of b builds)
+pub index_notes : (pairs : List Pair) (b : Build) (builds : List Build) → RisesFrom number_of_build 0 builds → IsFit (pair_of b) →
+    Indexes pairs (without number_of_build b.number builds) →
+    Indexes (put_by pair_key (pair_of b) pairs) (put_by number_of_build b builds)
 index_notes pairs b builds up small index = record {
   rise = rises-put pair_key 0 (pair_of b) pairs (omega arith) index.rise;
   fit = all_put IsFit pair_key (pair_of b) pairs small index.fit;
   told = record { there = there; back = back };
 }
   where
-    there : (x : Build) → In x (put_by number_of b builds) → In (pair_of x) (put_by pair_key (pair_of b) pairs)
+    there : (x : Build) → In x (put_by number_of_build b builds) → In (pair_of x) (put_by pair_key (pair_of b) pairs)
     there x t = ⊎_elim
         (λ e. subst (λ y. In (pair_of y) (put_by pair_key (pair_of b) pairs)) e (in_put pair_key (pair_of b) pairs))
-        (λ r. let told = index.told.there x (in_filter (λ (y : Build). not (number_of y == b.number)) x builds (stays number_of b.number x r.1) r.0) in
+        (λ r. let told = index.told.there x (in_filter (λ (y : Build). not (number_of_build y == b.number)) x builds (stays number_of_build b.number x r.1) r.0) in
         still_in pair_key (pair_of b) (pair_of x) pairs (λ e. same_pair (pair_of x) (pair_of b) (all_in IsFit pairs (pair_of x) index.fit told) small e) told)
-        (put_in number_of b x 0 builds up t)
+        (put_in number_of_build b x 0 builds up t)
 
-    back : (p : Pair) → In p (put_by pair_key (pair_of b) pairs) → (x : Build) × In x (put_by number_of b builds) × (pair_of x ≡ p)
+    back : (p : Pair) → In p (put_by pair_key (pair_of b) pairs) → (x : Build) × In x (put_by number_of_build b builds) × (pair_of x ≡ p)
     back p t = ⊎_elim
-        (λ e. (b, in_put number_of b builds, e))
+        (λ e. (b, in_put number_of_build b builds, e))
         (λ r. let x = index.told.back p r.0 in
-        let s = from_filter (λ (y : Build). not (number_of y == b.number)) x.0 builds x.1 in
-        (x.0, still_in number_of b x.0 builds (λ e. absurd (other number_of b.number x.0 s.1 e)) s.0, x.2))
+        let s = from_filter (λ (y : Build). not (number_of_build y == b.number)) x.0 builds x.1 in
+        (x.0, still_in number_of_build b x.0 builds (λ e. absurd (other number_of_build b.number x.0 s.1 e)) s.0, x.2))
         (put_in pair_key (pair_of b) p 0 pairs index.rise t)
 
 -- builds changed, but not in what their pairs tell
@@ -178,33 +178,33 @@ rises-map key m [] up = tt
 rises-map key m (x ∷ xs) up = (up.0, rises-map key (suc (key x)) xs up.1)
 
 -- the pairs of a serial tell the numbers of its builds
-pub numbers_of_index : (n : ℕ) (pairs : List Pair) (builds : List Build) → RisesFrom number_of 0 builds → Indexes pairs builds →
-    seconds_of n pairs ≡ map number_of (filter (is_of n) builds)
+pub numbers_of_index : (n : ℕ) (pairs : List Pair) (builds : List Build) → RisesFrom number_of_build 0 builds → Indexes pairs builds →
+    seconds_of n pairs ≡ map number_of_build (filter (is_build_of n) builds)
 numbers_of_index n pairs builds up index =
-    same_rows (λ (i : ℕ). i) 0 0 (seconds_of n pairs) (map number_of (filter (is_of n) builds))
+    same_rows (λ (i : ℕ). i) 0 0 (seconds_of n pairs) (map number_of_build (filter (is_build_of n) builds))
     (seconds_rise n 0 0 pairs index.rise (λ q h e. omega arith))
-    (rises-map number_of 0 (filter (is_of n) builds) (rises-filter number_of (is_of n) 0 builds up)) there back
+    (rises-map number_of_build 0 (filter (is_build_of n) builds) (rises-filter number_of_build (is_build_of n) 0 builds up)) there back
   where
-    there : (z : ℕ) → In z (seconds_of n pairs) → In z (map number_of (filter (is_of n) builds))
+    there : (z : ℕ) → In z (seconds_of n pairs) → In z (map number_of_build (filter (is_build_of n) builds))
     there z t =
         let r = from_map (λ (q : Pair). q.second) z (filter (λ (q : Pair). q.first == n) pairs) t in
         let s = from_filter (λ (q : Pair). q.first == n) r.0 pairs r.1 in
         let x = index.told.back r.0 s.0 in
-        subst (λ i. In i (map number_of (filter (is_of n) builds))) (ap (λ (q : Pair). q.second) x.2 ∙ r.2)
-        (in_map number_of x.0 (filter (is_of n) builds) (in_filter (is_of n) x.0 builds (ap (λ (q : Pair). q.first == n) x.2 ∙ s.1) x.1))
+        subst (λ i. In i (map number_of_build (filter (is_build_of n) builds))) (ap (λ (q : Pair). q.second) x.2 ∙ r.2)
+        (in_map number_of_build x.0 (filter (is_build_of n) builds) (in_filter (is_build_of n) x.0 builds (ap (λ (q : Pair). q.first == n) x.2 ∙ s.1) x.1))
 
-    back : (z : ℕ) → In z (map number_of (filter (is_of n) builds)) → In z (seconds_of n pairs)
+    back : (z : ℕ) → In z (map number_of_build (filter (is_build_of n) builds)) → In z (seconds_of n pairs)
     back z t =
-        let r = from_map number_of z (filter (is_of n) builds) t in
-        let s = from_filter (is_of n) r.0 builds r.1 in
+        let r = from_map number_of_build z (filter (is_build_of n) builds) t in
+        let s = from_filter (is_build_of n) r.0 builds r.1 in
         subst (λ i. In i (seconds_of n pairs)) r.2 (second_in n (pair_of r.0) pairs (eqb-true r.0.serial n s.1) (index.told.there r.0 s.0))
 
 -- so they are as many
-pub count_of_index : (n : ℕ) (pairs : List Pair) (builds : List Build) → RisesFrom number_of 0 builds → Indexes pairs builds →
-    length (filter (λ (p : Pair). p.first == n) pairs) ≡ length (filter (is_of n) builds)
+pub count_of_index : (n : ℕ) (pairs : List Pair) (builds : List Build) → RisesFrom number_of_build 0 builds → Indexes pairs builds →
+    length (filter (λ (p : Pair). p.first == n) pairs) ≡ length (filter (is_build_of n) builds)
 count_of_index n pairs builds up index =
     sym (length-map (filter (λ (p : Pair). p.first == n) pairs) (λ (p : Pair). p.second))
-    ∙ ap length (numbers_of_index n pairs builds up index) ∙ length-map (filter (is_of n) builds) number_of
+    ∙ ap length (numbers_of_index n pairs builds up index) ∙ length-map (filter (is_build_of n) builds) number_of_build
 
 -- ---- the last of them
 
@@ -232,22 +232,22 @@ abbrev pub told_of : List Build → ℕ → Option BuildSummary
 told_of builds n = option_map summary_of (find (λ b. b.number == n) builds)
 
 told_each : (builds fs : List Build) → AllByRecursion (λ (b : Build). find (λ x. x.number == b.number) builds ≡ Some b) fs →
-    filter_map (told_of builds) (map number_of fs) ≡ map summary_of fs
+    filter_map (told_of builds) (map number_of_build fs) ≡ map summary_of fs
 told_each builds [] all = refl
 told_each builds (b ∷ bs) all =
     λ i. cons_option (option_map summary_of (all.0 i)) (told_each builds bs all.1 i)
 
 -- the last pairs of a serial tell of its last builds
-pub last_of_index : (n most : ℕ) (pairs : List Pair) (builds : List Build) → RisesFrom number_of 0 builds → Indexes pairs builds →
+pub last_of_index : (n most : ℕ) (pairs : List Pair) (builds : List Build) → RisesFrom number_of_build 0 builds → Indexes pairs builds →
     filter_map (λ (p : Pair). told_of builds p.second) (last_of most (filter (λ (p : Pair). p.first == n) pairs))
-    ≡ map summary_of (last_of most (filter (is_of n) builds))
+    ≡ map summary_of (last_of most (filter (is_build_of n) builds))
 last_of_index n most pairs builds up index =
     let those = filter (λ (p : Pair). p.first == n) pairs in
-    let its = filter (is_of n) builds in
+    let its = filter (is_build_of n) builds in
     filter_map_seconds (told_of builds) (last_of most those)
     ∙ ap (filter_map (told_of builds)) (map_last (λ (p : Pair). p.second) most those
-    ∙ ap (last_of most) (numbers_of_index n pairs builds up index) ∙ sym (map_last number_of most its))
+    ∙ ap (last_of most) (numbers_of_index n pairs builds up index) ∙ sym (map_last number_of_build most its))
     ∙ told_each builds (last_of most its)
     (all_drop (λ (b : Build). find (λ x. x.number == b.number) builds ≡ Some b) (length its - most) its
     (all_from (λ (b : Build). find (λ x. x.number == b.number) builds ≡ Some b) its
-    (λ b t. finds_row number_of b 0 builds up (from_filter (is_of n) b builds t).0)))
+    (λ b t. finds_row number_of_build b 0 builds up (from_filter (is_build_of n) b builds t).0)))

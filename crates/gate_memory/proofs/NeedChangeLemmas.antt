@@ -16,7 +16,7 @@ use Rattle.gate_memory.specs.declared.pairs.Pair.{Pair}
 use Rattle.gate_memory.specs.Pairs.{IsFit}
 use Rattle.gate_memory.specs.Sorted.{without}
 use Rattle.gate_memory.specs.Needs.{AreNeeds, TellsNeeds, TellsNeedsOf, TellsNoneOf, pair_of_need}
-use Rattle.gate_memory.specs.Changes.{TellsReady, entry_of}
+use Rattle.gate_memory.specs.Changes.{TellsReady, indexed_ready}
 use Rattle.gate_memory.proofs.TableLemmas.{find_put}
 use Rattle.gate_memory.proofs.ChangeLemmas.{dropped, in_dropped}
 use Rattle.gate_memory.proofs.NeedLemmas.{all_from, from_filter}
@@ -94,8 +94,8 @@ are_needs_without old new n rows stand gone back =
 pub ready_without : (was : Option ℕ) (n : ℕ) (ready : List Pair) (rows : List ChangeRow) → n < 18446744073709551616 → AllByRecursion IsFit ready → TellsReady ready rows →
     TellsReady (dropped was n ready) (without number_of_change n rows)
 ready_without was n ready rows small fit told =
-    all_from (λ (r : ChangeRow). (a : ℕ) → r.approval ≡ Some a → In (entry_of r.change.number a) (dropped was n ready)) (without number_of_change n rows)
+    all_from (λ (r : ChangeRow). (a : ℕ) → r.approval ≡ Some a → In (indexed_ready r.change.number a) (dropped was n ready)) (without number_of_change n rows)
     (λ r t a e.
     let u = from_filter (λ (k : ChangeRow). not (number_of_change k == n)) r rows t in
-    in_dropped was n ready (entry_of r.change.number a) small fit (other number_of_change n r u.1)
-    (all_in (λ (k : ChangeRow). (b : ℕ) → k.approval ≡ Some b → In (entry_of k.change.number b) ready) rows r told u.0 a e))
+    in_dropped was n ready (indexed_ready r.change.number a) small fit (other number_of_change n r u.1)
+    (all_in (λ (k : ChangeRow). (b : ℕ) → k.approval ≡ Some b → In (indexed_ready k.change.number b) ready) rows r told u.0 a e))

@@ -17,7 +17,7 @@ use Rattle.gate_types.specs.Rising.{In}
 use Rattle.gate_types.proofs.PlainLemmas.{all_push}
 use Rattle.gate_memory.specs.declared.pairs.Pair.{Pair}
 use Rattle.gate_memory.specs.Pairs.{IsFit}
-use Rattle.gate_memory.specs.Needs.{TellsNeeds, TellsSerials, IsSmall, pair_of_need, needs_of, needs_of_all}
+use Rattle.gate_memory.specs.Needs.{TellsNeeds, TellsSerials, IsSmall, pair_of_need, needs_brought, needs_of_all}
 use Rattle.gate_book_trait.specs.RowReads.{needs_in}
 use Rattle.gate_book_trait.proofs.Finding.{all_in, in_weaker}
 
@@ -102,9 +102,9 @@ serials_more n some more items h told = in_weaker (λ (i : Item). i.change ≡ n
 
 -- ---- how many
 
-needs_push : (es : List Edit) (e : Edit) → needs_of_all (es ++ e ∷ []) ≡ needs_of_all es + needs_of e
+needs_push : (es : List Edit) (e : Edit) → needs_of_all (es ++ e ∷ []) ≡ needs_of_all es + needs_brought e
 needs_push [] e = omega arith
 needs_push (d ∷ ds) e = let rest = needs_push ds e in omega (arith, rest)
 
-pub needs_more : (es : List Edit) (k : ℕ) (e : Edit) → k < length es → e ≡ get_or es k e → needs_of_all (take (k + 1) es) ≡ needs_of_all (take k es) + needs_of e
+pub needs_more : (es : List Edit) (k : ℕ) (e : Edit) → k < length es → e ≡ get_or es k e → needs_of_all (take (k + 1) es) ≡ needs_of_all (take k es) + needs_brought e
 needs_more es k e l at = ap needs_of_all (take_more es k e l ∙ ap (λ d. take k es ++ d ∷ []) (sym at)) ∙ needs_push (take k es) e

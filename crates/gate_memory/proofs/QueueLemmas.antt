@@ -12,18 +12,18 @@ use Rattle.gate_types.specs.Rising.{In}
 use Rattle.gate_memory.specs.declared.pairs.Pair.{Pair}
 use Rattle.gate_memory.specs.Sorted.{first_of, without}
 use Rattle.gate_memory.specs.Pairs.{pair_key, IsFit}
-use Rattle.gate_memory.specs.Queues.{TellsItems, is_of_change, entry_of}
+use Rattle.gate_memory.specs.Queues.{TellsItems, is_item_of, indexed_item}
 use Rattle.gate_memory.proofs.PairLemmas.{same_pair, seconds_of, second_in}
 use Rattle.gate_memory.proofs.CollectLemmas.{AreTold}
 use Rattle.gate_book_trait.proofs.Finding.{in_weaker, all_in}
 use Rattle.gate_memory.proofs.BuildLemmas.{all_put, in_put, still_in, in_without}
 
 -- an item put, and its entry
-pub tells_item_put : (entries : List Pair) (i : Item) (items : List Item) → AllByRecursion IsFit entries → IsFit (entry_of i) → TellsItems entries items → TellsItems (put_by pair_key (entry_of i) entries) (put_by serial_of_item i items)
+pub tells_item_put : (entries : List Pair) (i : Item) (items : List Item) → AllByRecursion IsFit entries → IsFit (indexed_item i) → TellsItems entries items → TellsItems (put_by pair_key (indexed_item i) entries) (put_by serial_of_item i items)
 tells_item_put entries i items fit small told =
-    all_put (λ x. In (entry_of x) (put_by pair_key (entry_of i) entries)) serial_of_item i items (in_put pair_key (entry_of i) entries)
-    (in_weaker (λ x. In (entry_of x) entries) (λ x. In (entry_of x) (put_by pair_key (entry_of i) entries))
-    (λ x h. still_in pair_key (entry_of i) (entry_of x) entries (λ e. same_pair (entry_of x) (entry_of i) (all_in IsFit entries (entry_of x) fit h) small e) h)
+    all_put (λ x. In (indexed_item x) (put_by pair_key (indexed_item i) entries)) serial_of_item i items (in_put pair_key (indexed_item i) entries)
+    (in_weaker (λ x. In (indexed_item x) entries) (λ x. In (indexed_item x) (put_by pair_key (indexed_item i) entries))
+    (λ x h. still_in pair_key (indexed_item i) (indexed_item x) entries (λ e. same_pair (indexed_item x) (indexed_item i) (all_in IsFit entries (indexed_item x) fit h) small e) h)
     items told)
 
 -- an item dropped, and its entry
@@ -34,8 +34,8 @@ tells_item_dropped entries p n (i ∷ is) fit small second told = by_serial (i.s
     by_serial : (t : Bool) → i.serial == n ≡ t → TellsItems (without pair_key (pair_key p) entries) (without serial_of_item n is) → TellsItems (without pair_key (pair_key p) entries) (cond (not t) (i ∷ without serial_of_item n is) (without serial_of_item n is))
     by_serial true e rest = rest
     by_serial false e rest = (
-      in_without pair_key (pair_key p) (entry_of i) entries
-          (λ k. absurd (false≢true (sym e ∙ eq-eqb i.serial n (ap (λ (q : Pair). q.second) (same_pair (entry_of i) p (all_in IsFit entries (entry_of i) fit told.0) small k) ∙ second)))) told.0,
+      in_without pair_key (pair_key p) (indexed_item i) entries
+          (λ k. absurd (false≢true (sym e ∙ eq-eqb i.serial n (ap (λ (q : Pair). q.second) (same_pair (indexed_item i) p (all_in IsFit entries (indexed_item i) fit told.0) small k) ∙ second)))) told.0,
       rest,
     )
 
@@ -49,9 +49,9 @@ without_missing n (i ∷ is) e = by_serial (i.serial == n) e (without_missing n 
     by_serial false e rest = ap (λ js. i ∷ js) (rest e)
 
 -- each item of a change has its serial in the index
-pub items_are_told : (n : ℕ) (entries : List Pair) (items : List Item) → TellsItems entries items → AreTold serial_of_item (is_of_change n) items (seconds_of n entries)
+pub items_are_told : (n : ℕ) (entries : List Pair) (items : List Item) → TellsItems entries items → AreTold serial_of_item (is_item_of n) items (seconds_of n entries)
 items_are_told n entries [] told = tt
-items_are_told n entries (i ∷ is) told = ((λ e. second_in n (entry_of i) entries (eqb-true i.change n e) told.0), items_are_told n entries is told.1)
+items_are_told n entries (i ∷ is) told = ((λ e. second_in n (indexed_item i) entries (eqb-true i.change n e) told.0), items_are_told n entries is told.1)
 
 -- what is found is the first that passes
 pub find_first : {X : Type 0} (test : X → Bool) (xs : List X) → first_of (filter test xs) ≡ find test xs

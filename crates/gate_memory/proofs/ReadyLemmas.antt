@@ -11,10 +11,10 @@ use Rattle.gate_types.specs.Tables.{approval_of}
 use Rattle.gate_types.specs.Keys.{number_of_change}
 use Rattle.gate_types.specs.Rising.{RisesFrom, In}
 use Rattle.gate_memory.specs.declared.pairs.Pair.{Pair}
-use Rattle.gate_memory.specs.Sorted.{kept_if, passing}
+use Rattle.gate_memory.specs.Sorted.{kept_if, passing_at}
 use Rattle.gate_memory.specs.Pairs.{pair_key, IsFit}
 use Rattle.gate_book_trait.specs.RowReads.{AreReady, Differ}
-use Rattle.gate_memory.specs.Changes.{TellsReady, same_number, ready_by, entry_of}
+use Rattle.gate_memory.specs.Changes.{TellsReady, same_number, ready_by, indexed_ready}
 use Rattle.gate_memory.proofs.PairLemmas.{same_pair}
 use Rattle.gate_book_trait.proofs.Finding.{all_in, found_has, found_in}
 use Rattle.gate_memory.proofs.CollectLemmas.{collected}
@@ -23,7 +23,7 @@ use Rattle.gate_book_trait.proofs.ReadLemmas.{no_row}
 
 -- the key of a ready change is that of its pair
 abbrev pub ready_key : Ready → ℕ
-ready_key r = pair_key (entry_of r.change r.approval)
+ready_key r = pair_key (indexed_ready r.change r.approval)
 
 abbrev any : Ready → Bool
 any r = true
@@ -74,7 +74,7 @@ if_approved a r = cond (r.approval == a) (Some r) None
 at_change : (p : Pair) (r : Ready) (found : Option Ready) → IsFit p → r.change < 18446744073709551616 → r.change ≡ p.second → found ≡ None → cond (ready_key r == pair_key p) (Some r) found ≡ if_approved p.first r
 at_change p r found fit small e none = ⊎_elim
     (λ t. ap (λ b. cond b (Some r) found) (eq-eqb (ready_key r) (pair_key p) (omega (arith, e, t.1))) ∙ ap (λ b. cond b (Some r) None) (sym t.0))
-    (λ t. let ne : ready_key r ≢ pair_key p = λ k. t.1 (ap (λ (q : Pair). q.first) (same_pair (entry_of r.change r.approval) p small fit k)) in
+    (λ t. let ne : ready_key r ≢ pair_key p = λ k. t.1 (ap (λ (q : Pair). q.first) (same_pair (indexed_ready r.change r.approval) p small fit k)) in
     ap (λ b. cond b (Some r) found) (ne_eqb (ready_key r) (pair_key p) ne) ∙ none ∙ ap (λ b. cond b (Some r) None) (sym t.0))
     (eqb_tells r.approval p.first)
 
@@ -88,7 +88,7 @@ by_change p (r ∷ rs) fit small differ =
     ⊎_elim
     (λ t. let none : changes ≡ None = ap (λ n. find (λ (s : Ready). s.change == n) rs) (sym t.1) ∙ none_change r.change rs differ.0 in
     at_change p r others fit small.0 t.1 (rest ∙ ap (option_and_then (if_approved p.first)) none) ∙ ap (λ b. option_and_then (if_approved p.first) (cond b (Some r) changes)) (sym t.0))
-    (λ t. let ne : ready_key r ≢ pair_key p = λ k. t.1 (ap (λ (q : Pair). q.second) (same_pair (entry_of r.change r.approval) p small.0 fit k)) in
+    (λ t. let ne : ready_key r ≢ pair_key p = λ k. t.1 (ap (λ (q : Pair). q.second) (same_pair (indexed_ready r.change r.approval) p small.0 fit k)) in
     ap (λ b. cond b (Some r) others) (ne_eqb (ready_key r) (pair_key p) ne) ∙ rest ∙ ap (λ b. option_and_then (if_approved p.first) (cond b (Some r) changes)) (sym t.0))
     (eqb_tells r.change p.second)
 
@@ -117,7 +117,7 @@ pair_tells rows rs p ready fit (Some k) e =
     row_tells p.first p.second k (find (λ (r : Ready). r.change == p.second) rs) number (approval ∙ ap (approval_of rs) number) change
 
 -- all pairs
-pairs_tell : (rows : List ChangeRow) (rs : List Ready) (ps : List Pair) → AreReady rows rs → AllByRecursion IsFit ps → filter_map (ready_by rows) ps ≡ filter_map (passing ready_key any rs) (map pair_key ps)
+pairs_tell : (rows : List ChangeRow) (rs : List Ready) (ps : List Pair) → AreReady rows rs → AllByRecursion IsFit ps → filter_map (ready_by rows) ps ≡ filter_map (passing_at ready_key any rs) (map pair_key ps)
 pairs_tell rows rs [] ready fit = refl
 pairs_tell rows rs (p ∷ ps) ready fit = λ i. cons_option (one i) (pairs_tell rows rs ps ready fit.1 i)
   where
@@ -125,7 +125,7 @@ pairs_tell rows rs (p ∷ ps) ready fit = λ i. cons_option (one i) (pairs_tell 
     taken None = refl
     taken (Some r) = refl
 
-    one : ready_by rows p ≡ passing ready_key any rs (pair_key p)
+    one : ready_by rows p ≡ passing_at ready_key any rs (pair_key p)
     one = pair_tells rows rs p ready fit.0 (find (λ (k : ChangeRow). k.change.number == p.second) rows) refl ∙ sym (by_change p rs fit.0 ready.fit ready.differ) ∙ taken (find (λ (r : Ready). ready_key r == pair_key p) rs)
 
 -- each ready change has its key in the index
@@ -138,8 +138,8 @@ keys_told rows rs ps ready told r there = by_row (find (λ (k : ChangeRow). k.ch
         let number : number_of_change k ≡ r.change = found_has number_of_change r.change k rows (sym e) in
         let there' : In k rows = found_in (λ (j : ChangeRow). j.change.number == r.change) rows k e in
         let approval : k.approval ≡ Some r.approval = all_in (λ (j : ChangeRow). j.approval ≡ approval_of rs j.change.number) rows k ready.told there' ∙ ap (approval_of rs) number ∙ approval_known rs r ready.differ there in
-        let entry : In (entry_of k.change.number r.approval) ps = all_in (λ (j : ChangeRow). (a : ℕ) → j.approval ≡ Some a → In (entry_of j.change.number a) ps) rows k told there' r.approval approval in
-        subst (λ n. In (pair_key (entry_of n r.approval)) (map pair_key ps)) number (in_map pair_key (entry_of k.change.number r.approval) ps entry)
+        let entry : In (indexed_ready k.change.number r.approval) ps = all_in (λ (j : ChangeRow). (a : ℕ) → j.approval ≡ Some a → In (indexed_ready j.change.number a) ps) rows k told there' r.approval approval in
+        subst (λ n. In (pair_key (indexed_ready n r.approval)) (map pair_key ps)) number (in_map pair_key (indexed_ready k.change.number r.approval) ps entry)
 
 -- what is read along the index is the ready list
 pub ready_is : (rows : List ChangeRow) (rs : List Ready) (ps : List Pair) → AreReady rows rs → RisesFrom pair_key 0 ps → AllByRecursion IsFit ps → TellsReady ps rows → filter_map (ready_by rows) ps ≡ rs

@@ -12,21 +12,21 @@ use Rattle.gate_types.proofs.PlainLemmas.{below_or}
 use Rattle.gate_book_trait.proofs.Finding.{in_weaker, all_in, rest_none}
 use Rattle.gate_memory.specs.declared.pairs.Pair.{Pair}
 use Rattle.gate_memory.specs.Pairs.{pair_key, IsFit}
-use Rattle.gate_memory.specs.Reports.{TellsReports, is_of_serial, entry_of}
+use Rattle.gate_memory.specs.Reports.{TellsReports, is_of_serial, indexed_report}
 use Rattle.gate_memory.proofs.PairLemmas.{same_pair, seconds_of, second_in}
 use Rattle.gate_memory.proofs.CollectLemmas.{AreTold}
 use Rattle.gate_memory.proofs.BuildLemmas.{all_put, in_put, still_in}
 
 -- a report put, and its entry
 pub tells_report_put : (entries : List Pair) (r : ReportRow) (rows : List ReportRow) → AllByRecursion IsFit entries →
-    IsFit (entry_of r) → TellsReports entries rows →
-    TellsReports (put_by pair_key (entry_of r) entries) (put_by place_of_report r rows)
+    IsFit (indexed_report r) → TellsReports entries rows →
+    TellsReports (put_by pair_key (indexed_report r) entries) (put_by place_of_report r rows)
 tells_report_put entries r rows fit small told =
-    all_put (λ x. In (entry_of x) (put_by pair_key (entry_of r) entries)) place_of_report r rows
-    (in_put pair_key (entry_of r) entries)
-    (in_weaker (λ x. In (entry_of x) entries) (λ x. In (entry_of x) (put_by pair_key (entry_of r) entries))
-    (λ x h. still_in pair_key (entry_of r) (entry_of x) entries
-    (λ e. same_pair (entry_of x) (entry_of r) (all_in IsFit entries (entry_of x) fit h) small e) h)
+    all_put (λ x. In (indexed_report x) (put_by pair_key (indexed_report r) entries)) place_of_report r rows
+    (in_put pair_key (indexed_report r) entries)
+    (in_weaker (λ x. In (indexed_report x) entries) (λ x. In (indexed_report x) (put_by pair_key (indexed_report r) entries))
+    (λ x h. still_in pair_key (indexed_report r) (indexed_report x) entries
+    (λ e. same_pair (indexed_report x) (indexed_report r) (all_in IsFit entries (indexed_report x) fit h) small e) h)
     rows told)
 
 -- each report of a serial has its place in the index
@@ -34,7 +34,7 @@ pub reports_are_told : (n : ℕ) (entries : List Pair) (rows : List ReportRow) �
     AreTold place_of_report (is_of_serial n) rows (seconds_of n entries)
 reports_are_told n entries [] told = tt
 reports_are_told n entries (r ∷ rs) told =
-    ((λ e. second_in n (entry_of r) entries (eqb-true r.report.serial n e) told.0), reports_are_told n entries rs told.1)
+    ((λ e. second_in n (indexed_report r) entries (eqb-true r.report.serial n e) told.0), reports_are_told n entries rs told.1)
 
 -- ---- some of a list
 

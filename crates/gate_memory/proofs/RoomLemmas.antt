@@ -11,7 +11,7 @@ use Rattle.gate_memory.specs.declared.plans.PlanTable.{PlanTable}
 use Rattle.gate_memory.specs.declared.queues.QueueTable.{QueueTable}
 use Rattle.gate_memory.specs.declared.replies.ReplyTable.{ReplyTable}
 
-pub changes_fewer : (n m k j : ℕ) (t : ChangeTable) → k ≤ n → j ≤ m → change.HasRoom n m t → change.HasRoom k j t
+pub changes_fewer : (n m k j : ℕ) (t : ChangeTable) → k ≤ n → j ≤ m → change.HasRoomForChanges n m t → change.HasRoomForChanges k j t
 changes_fewer n m k j t less few room = record {
   rows = omega (arith, room.rows);
   positions = omega (arith, room.positions);
@@ -19,7 +19,7 @@ changes_fewer n m k j t less few room = record {
   needs = omega (arith, room.needs);
 }
 
-pub plans_fewer : (n k : ℕ) (t : PlanTable) → k ≤ n → plan.HasRoom n t → plan.HasRoom k t
+pub plans_fewer : (n k : ℕ) (t : PlanTable) → k ≤ n → plan.HasRoomForPlans n t → plan.HasRoomForPlans k t
 plans_fewer n k t less room = omega (arith, room)
 
 pub builds_fewer : (n k : ℕ) (t : BuildTable) → k ≤ n → HaveRoom n t → HaveRoom k t
@@ -29,10 +29,10 @@ builds_fewer n k t less room = record {
   told = omega (arith, room.told);
 }
 
-pub replies_fewer : (n k : ℕ) (t : ReplyTable) → k ≤ n → reply.HasRoom n t → reply.HasRoom k t
+pub replies_fewer : (n k : ℕ) (t : ReplyTable) → k ≤ n → reply.HasRoomForReplies n t → reply.HasRoomForReplies k t
 replies_fewer n k t less room = record { rows = omega (arith, room.rows); positions = omega (arith, room.positions) }
 
-pub queue_fewer : (n k : ℕ) (t : QueueTable) → k ≤ n → queue.HasRoom n t → queue.HasRoom k t
+pub queue_fewer : (n k : ℕ) (t : QueueTable) → k ≤ n → queue.HasRoomForRows n t → queue.HasRoomForRows k t
 queue_fewer n k t less room = record {
   items = omega (arith, room.items);
   entries = omega (arith, room.entries);

@@ -10,7 +10,7 @@ use Rattle.gate_types.specs.State.{put_by}
 use Rattle.gate_types.specs.Rising.{RisesFrom, In}
 use Rattle.gate_types.proofs.PlainLemmas.{below_or}
 use Rattle.std.proofs.lemmas.Option.{none-some, slice_get-get_or}
-use Rattle.gate_memory.specs.Sorted.{IsAt, position_in, without}
+use Rattle.gate_memory.specs.Sorted.{IsAtPosition, position_in, without}
 
 -- what stands at a position needs no default
 pub get_or_any : {X : Type 0} (xs : List X) (i : ℕ) (d e : X) → i < length xs → get_or xs i d ≡ get_or xs i e
@@ -299,11 +299,11 @@ changed_set key n f m (x ∷ xs) (suc i) d r h e =
     let above : suc (key x) ≤ key (get_or xs i d) = rises-at key (suc (key x)) xs i d r.1 (omega arith) in
     ap (λ t. cond t (f x) x ∷ changed key n f xs) (ne_eqb (key x) n (λ s. omega (arith, e, s))) ∙ ap (λ ys. x ∷ ys) (changed_set key n f (suc (key x)) xs i d r.1 (omega arith) e)
 
-pub key_at : {X : Type 0} (key : X → ℕ) (n : ℕ) (xs : List X) (i : ℕ) (d : X) → IsAt key n xs i → key (get_or xs i d) ≡ n
+pub key_at : {X : Type 0} (key : X → ℕ) (n : ℕ) (xs : List X) (i : ℕ) (d : X) → IsAtPosition key n xs i → key (get_or xs i d) ≡ n
 key_at key n xs i d at = ap (λ o. unwrap_or o 0) (sym (ap (option_map key) (slice_get-get_or xs i d at.within)) ∙ at.has_key)
 
 -- a row at its position, changed
-pub changed_at : {X : Type 0} (key : X → ℕ) (n : ℕ) (f : X → X) (xs : List X) (i : ℕ) (d y : X) → RisesFrom key 0 xs → IsAt key n xs i → y ≡ get_or xs i d → set xs i (f y) ≡ map (λ x. cond (key x == n) (f x) x) xs
+pub changed_at : {X : Type 0} (key : X → ℕ) (n : ℕ) (f : X → X) (xs : List X) (i : ℕ) (d y : X) → RisesFrom key 0 xs → IsAtPosition key n xs i → y ≡ get_or xs i d → set xs i (f y) ≡ map (λ x. cond (key x == n) (f x) x) xs
 changed_at key n f xs i d y r at here = ap (λ z. set xs i (f z)) here ∙ sym (changed_set key n f 0 xs i d r at.within (key_at key n xs i d at))
 
 -- a row that isn't there changes nothing

@@ -17,7 +17,7 @@ use Rattle.gate_book_trait.specs.RowReads.{needs_in, change_row_in}
 use Rattle.gate_book_trait.proofs.Finding.{in_weaker}
 use Rattle.gate_memory.specs.declared.pairs.Pair.{Pair}
 use Rattle.gate_memory.specs.Pairs.{IsFit}
-use Rattle.gate_memory.specs.Changes.{AreApart, FindsNumbers, Numbers, TellsReady, entry_of, in_order, position_at}
+use Rattle.gate_memory.specs.Changes.{AreApart, FindsNumbers, Numbers, TellsReady, indexed_ready, in_order, position_at}
 use Rattle.gate_memory.specs.Needs.{AreNeeds, TellsNeeds, TellsNeedsOf}
 use Rattle.gate_memory.proofs.TableLemmas.{in_order_set, numbers_set, position_bound, row_at, row_found}
 use Rattle.gate_memory.proofs.MovedLemmas.{apart_set}
@@ -61,9 +61,9 @@ pub tells_stage : (was : Option ℕ) (n : ℕ) (g : Stage) (ready : List Pair) (
 tells_stage was n g ready [] small fit told = tt
 tells_stage was n g ready (r ∷ rs) small fit told = (by_number (number_of_change r == n) refl, tells_stage was n g ready rs small fit told.1)
   where
-    by_number : (t : Bool) → number_of_change r == n ≡ t → (a : ℕ) → (cond t (at_stage g r) r).approval ≡ Some a → In (entry_of (cond t (at_stage g r) r).change.number a) (dropped was n ready)
+    by_number : (t : Bool) → number_of_change r == n ≡ t → (a : ℕ) → (cond t (at_stage g r) r).approval ≡ Some a → In (indexed_ready (cond t (at_stage g r) r).change.number a) (dropped was n ready)
     by_number true same a e = absurd (none-some a e)
-    by_number false other a e = in_dropped was n ready (entry_of r.change.number a) small fit (λ e2. true≢false (sym (eq-eqb r.change.number n e2) ∙ other)) (told.0 a e)
+    by_number false other a e = in_dropped was n ready (indexed_ready r.change.number a) small fit (λ e2. true≢false (sym (eq-eqb r.change.number n e2) ∙ other)) (told.0 a e)
 
 needs_same : (n : ℕ) (g : Stage) (o : Option ChangeRow) → needs_of_row (option_map (λ (r : ChangeRow). cond (number_of_change r == n) (at_stage g r) r) o) ≡ needs_of_row o
 needs_same n g None = refl

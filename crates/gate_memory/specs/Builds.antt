@@ -8,16 +8,16 @@ use Rattle.gate_memory.specs.declared.pairs.Pair.{Pair}
 use Rattle.gate_memory.specs.declared.builds.BuildTable.{BuildTable}
 
 -- the number of a build
-abbrev pub number_of : Build → ℕ
-number_of b = b.number
+abbrev pub number_of_build : Build → ℕ
+number_of_build b = b.number
 
 -- a live build of a serial
 abbrev pub is_live_of : ℕ → Build → Bool
 is_live_of serial b = b.live && b.serial == serial
 
 -- a build of a serial, live or not
-abbrev pub is_of : ℕ → Build → Bool
-is_of serial b = b.serial == serial
+abbrev pub is_build_of : ℕ → Build → Bool
+is_build_of serial b = b.serial == serial
 
 -- what an index keeps of a build
 abbrev pub pair_of : Build → Pair
@@ -39,8 +39,8 @@ pub record Indexes (pairs : List Pair) (builds : List Build) : Type 0 where
   pub told : IsIndexOf pairs builds
 
 -- all lists rise, the one index has all builds, and the other each live one
-pub record AreKept (t : BuildTable) : Type 0 where
-  pub rows_rise : RisesFrom number_of 0 t.rows.items
+pub record IsKeptBuildTable (t : BuildTable) : Type 0 where
+  pub rows_rise : RisesFrom number_of_build 0 t.rows.items
   pub live_rise : RisesFrom pair_key 0 t.live.items
   pub live_fit : AllByRecursion IsFit t.live.items
   pub live_told : TellsLive t.live.items t.rows.items

@@ -41,12 +41,13 @@ abbrev pub FindsNumbers : Numbers → List ChangeRow → Type 0
 FindsNumbers positions rows = (n : ℕ) → get nat_eq positions n ≡ position_at number_of_change n rows
 
 -- what the index keeps of a ready change: the number of its approval, and its own
-abbrev pub entry_of : ℕ → ℕ → Pair
-entry_of n a = record { first = a; second = n }
+abbrev pub indexed_ready : ℕ → ℕ → Pair
+indexed_ready n a = record { first = a; second = n }
 
 -- each ready change stands in the index
 abbrev pub TellsReady : List Pair → List ChangeRow → Type 0
-TellsReady ready rows = AllByRecursion (λ r. (a : ℕ) → r.approval ≡ Some a → In (entry_of r.change.number a) ready) rows
+TellsReady ready rows =
+    AllByRecursion (λ r. (a : ℕ) → r.approval ≡ Some a → In (indexed_ready r.change.number a) ready) rows
 
 -- the approval number is this one
 abbrev pub same_number : Option ℕ → ℕ → Bool
@@ -54,7 +55,7 @@ same_number None n = false
 same_number (Some m) n = m == n
 
 -- numbers differ and find their rows, and the indexes, which rise, tell of each ready change and of exactly the needs
-pub record IsKept (t : ChangeTable) : Type 0 where
+pub record IsKeptChangeTable (t : ChangeTable) : Type 0 where
   pub apart : AreApart number_of_change t.rows.items
   pub finds : FindsNumbers t.positions t.rows.items
   pub ready_rise : RisesFrom pair_key 0 t.ready.items
@@ -65,7 +66,7 @@ pub record IsKept (t : ChangeTable) : Type 0 where
   pub needs_stand : AreNeeds t.needs.items (in_order number_of_change t.rows.items)
 
 -- room for n more, which have m needs
-pub record HasRoom (n m : ℕ) (t : ChangeTable) : Type 0 where
+pub record HasRoomForChanges (n m : ℕ) (t : ChangeTable) : Type 0 where
   pub rows : vec_len t.rows + n ≤ vec_capacity t.rows
   pub positions : n ≤ spare t.positions
   pub ready : vec_len t.ready + n ≤ vec_capacity t.ready

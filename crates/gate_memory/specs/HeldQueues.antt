@@ -4,7 +4,7 @@ use Rattle.gate_types.specs.declared.edits.Edit.{Edit}
 use Rattle.gate_types.specs.Tables.{QueueRows, edited_queue}
 use Rattle.gate_book_trait.specs.RowReads.{all_queued}
 use Rattle.gate_book_trait.specs.declared.rows.QueuedItem.{QueuedItem}
-use Rattle.gate_memory.specs.Queues.{rows_of}
+use Rattle.gate_memory.specs.Queues.{rows_of_table}
 use Rattle.gate_memory.specs.declared.queues.QueueTable.{QueueTable}
 
 -- the rows of a queue, and the last places of the landings and reports that aren't among them
@@ -19,7 +19,7 @@ live_queued queues = all_queued (map (λ l. l.rows) queues)
 
 -- a table has all rows of its queue
 abbrev pub whole_queue : QueueTable → LiveQueue
-whole_queue t = record { rows = rows_of t; landings = 0; reports = 0 }
+whole_queue t = record { rows = rows_of_table t; landings = 0; reports = 0 }
 
 -- so an edit changes its rows alone
 abbrev pub edited_whole : Edit → LiveQueue → LiveQueue

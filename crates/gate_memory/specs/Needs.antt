@@ -40,14 +40,14 @@ pub record AreInOrder (needs : List Pair) : Type 0 where
   pub small : AllByRecursion IsSmall needs
 
 -- how many needs an edit brings
-abbrev pub needs_of : Edit → ℕ
-needs_of (edit.PutChange k approval) = length k.needs
-needs_of _ = 0
+abbrev pub needs_brought : Edit → ℕ
+needs_brought (edit.PutChange k approval) = length k.needs
+needs_brought _ = 0
 
 -- and all of some edits
 abbrev pub needs_of_all : List Edit → ℕ
 needs_of_all [] = 0
-needs_of_all (e ∷ es) = needs_of e + needs_of_all es
+needs_of_all (e ∷ es) = needs_brought e + needs_of_all es
 
 -- numbers that rise
 abbrev pub IsRising : List ℕ → Type 0

@@ -5,9 +5,9 @@ use Rattle.gate_types.specs.Rising.{RisesFrom}
 use Rattle.gate_memory.specs.declared.plans.PlanTable.{PlanTable}
 
 -- the plans rise by serial
-abbrev pub IsKept : PlanTable → Type 0
-IsKept t = RisesFrom serial_of_plan 0 t.rows.items
+abbrev pub IsKeptPlanTable : PlanTable → Type 0
+IsKeptPlanTable t = RisesFrom serial_of_plan 0 t.rows.items
 
 -- room for n more
-abbrev pub HasRoom : ℕ → PlanTable → Type 0
-HasRoom n t = vec_len t.rows + n ≤ vec_capacity t.rows
+abbrev pub HasRoomForPlans : ℕ → PlanTable → Type 0
+HasRoomForPlans n t = vec_len t.rows + n ≤ vec_capacity t.rows

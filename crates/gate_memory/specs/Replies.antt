@@ -20,10 +20,10 @@ position_by test [] = None
 position_by test (k ∷ ks) = if test k then Some 0 else option_map (λ i. suc i) (position_by test ks)
 
 -- each id has the position of the first delivery that was kept under it
-pub record IsKept (t : ReplyTable) : Type 0 where
+pub record IsKeptReplyTable (t : ReplyTable) : Type 0 where
   pub finds : (id : List ℕ) → get same_id t.positions id ≡ position_by (has_id id) t.rows.items
 
 -- room for n more
-pub record HasRoom (n : ℕ) (t : ReplyTable) : Type 0 where
+pub record HasRoomForReplies (n : ℕ) (t : ReplyTable) : Type 0 where
   pub rows : vec_len t.rows + n ≤ vec_capacity t.rows
   pub positions : n ≤ spare t.positions

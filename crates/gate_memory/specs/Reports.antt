@@ -13,21 +13,21 @@ abbrev pub is_of_serial : ℕ → ReportRow → Bool
 is_of_serial n r = r.report.serial == n
 
 -- what the index keeps of a report
-abbrev pub entry_of : ReportRow → Pair
-entry_of r = record { first = r.report.serial; second = r.place }
+abbrev pub indexed_report : ReportRow → Pair
+indexed_report r = record { first = r.report.serial; second = r.place }
 
 -- each report stands in the index
 abbrev pub TellsReports : List Pair → List ReportRow → Type 0
-TellsReports entries rows = AllByRecursion (λ r. In (entry_of r) entries) rows
+TellsReports entries rows = AllByRecursion (λ r. In (indexed_report r) entries) rows
 
 -- both lists rise, and the index has each report
-pub record IsKept (t : ReportTable) : Type 0 where
+pub record IsKeptReportTable (t : ReportTable) : Type 0 where
   pub rows_rise : RisesFrom place_of_report 0 t.rows.items
   pub entries_rise : RisesFrom pair_key 0 t.entries.items
   pub entries_fit : AllByRecursion IsFit t.entries.items
   pub reports_told : TellsReports t.entries.items t.rows.items
 
 -- room for n more
-pub record HasRoom (n : ℕ) (t : ReportTable) : Type 0 where
+pub record HasRoomForReports (n : ℕ) (t : ReportTable) : Type 0 where
   pub rows : vec_len t.rows + n ≤ vec_capacity t.rows
   pub entries : vec_len t.entries + n ≤ vec_capacity t.entries

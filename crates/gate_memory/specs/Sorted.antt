@@ -8,7 +8,7 @@ position_in key n [] = 0
 position_in key n (x ∷ xs) = if nat_lt (key x) n then suc (position_in key n xs) else 0
 
 -- the row at a position has this key, and is what is found of it
-pub record IsAt {X : Type 0} (key : X → ℕ) (n : ℕ) (xs : List X) (position : ℕ) : Type 0 where
+pub record IsAtPosition {X : Type 0} (key : X → ℕ) (n : ℕ) (xs : List X) (position : ℕ) : Type 0 where
   pub within : position < length xs
   pub has_key : option_map key (slice_get xs position) ≡ Some n
   pub found : find (λ x. key x == n) xs ≡ slice_get xs position
@@ -26,8 +26,8 @@ abbrev pub kept_if : {X : Type 0} → (X → Bool) → X → Option X
 kept_if test x = if test x then Some x else None
 
 -- the row of a key, if it passes
-abbrev pub passing : {X : Type 0} → (X → ℕ) → (X → Bool) → List X → ℕ → Option X
-passing key test xs n = option_and_then (kept_if test) (find (λ x. key x == n) xs)
+abbrev pub passing_at : {X : Type 0} → (X → ℕ) → (X → Bool) → List X → ℕ → Option X
+passing_at key test xs n = option_and_then (kept_if test) (find (λ x. key x == n) xs)
 
 -- the first of some rows
 abbrev pub first_of : {X : Type 0} → List X → Option X

@@ -8,10 +8,11 @@ ghost use Rattle.gate_types.specs.Rebase.{with_live};
 ghost use Rattle.gate_types.specs.Rows.{with_outcome, change_build};
 ghost use Rattle.gate_types.specs.Rising.{RisesFrom};
 ghost use Rattle.gate_archive.specs.ItemText.{last_of, summary_of};
-ghost use Rattle.gate_memory.specs.Sorted.{passing, first_of, without};
+ghost use Rattle.gate_memory.specs.Sorted.{passing_at, first_of, without};
 ghost use Rattle.gate_memory.specs.Pairs.{pair_key, IsFit};
 ghost use Rattle.gate_memory.specs.Builds as index;
-ghost use Rattle.gate_memory.specs.Builds.{AreKept, HaveRoom, Indexes, number_of, is_live_of, is_of};
+ghost use Rattle.gate_memory.specs.Builds.{IsKeptBuildTable, HaveRoom, Indexes, number_of_build, is_live_of};
+ghost use Rattle.gate_memory.specs.Builds.{is_build_of};
 
 use crate::pairs::{Pair, of_first, remove_first};
 use crate::sorted;
@@ -33,9 +34,9 @@ pub struct BuildTable {
 }
 
 impl Keyed for Build {
-    ghost use Rattle.gate_memory.specs.Builds.{number_of};
+    ghost use Rattle.gate_memory.specs.Builds.{number_of_build};
 
-    ghost key = { number_of };
+    ghost key = { number_of_build };
 
     fn key(&self) -> u128 {
         self.number.get() as u128
@@ -55,9 +56,9 @@ fn pair_of(build: &Build) -> Pair
 
 /// Drops from an index of builds what it keeps of the one of a number.
 fn forget(told: &mut Vec<Pair>, rows: &[Build], number: BuildNo)
-    requires rising { RisesFrom number_of 0 rows.now }
+    requires rising { RisesFrom number_of_build 0 rows.now }
     requires index { Indexes told.old.items rows.now }
-    ensures index { Indexes told.new.items (without number_of number rows.now) }
+    ensures index { Indexes told.new.items (without number_of_build number rows.now) }
     ensures len { vec_len told.new ≤ vec_len told.old }
     ensures capacity { vec_capacity told.new ≡ vec_capacity told.old }
 {
@@ -69,9 +70,9 @@ fn forget(told: &mut Vec<Pair>, rows: &[Build], number: BuildNo)
 /// Notes in an index of builds, where there is room, the one that is to be put.
 fn note(told: &mut Vec<Pair>, rows: &[Build], build: &Build)
     requires room { vec_len told.old < vec_capacity told.old }
-    requires rising { RisesFrom number_of 0 rows.now }
+    requires rising { RisesFrom number_of_build 0 rows.now }
     requires index { Indexes told.old.items rows.now }
-    ensures index { Indexes told.new.items (put_by number_of build.now rows.now) }
+    ensures index { Indexes told.new.items (put_by number_of_build build.now rows.now) }
     ensures len { vec_len told.new ≤ vec_len told.old + 1 }
     ensures capacity { vec_capacity told.new ≡ vec_capacity told.old }
 {
@@ -81,7 +82,7 @@ fn note(told: &mut Vec<Pair>, rows: &[Build], build: &Build)
 
 /// Whether a build is of a serial.
 fn is_of(build: &Build, serial: Serial) -> bool
-    ensures { result ≡ is_of serial build.now }
+    ensures { result ≡ is_build_of serial build.now }
 {
     build.serial == serial
 }
@@ -102,8 +103,9 @@ fn first_number(told: &[Pair], serial: Serial) -> Option<u64>
 fn keep_other(rows: &mut Vec<Build>, position: usize, end: usize, serial: Serial) -> usize
     requires within { position < vec_len rows.old }
     requires order { end ≤ position }
-    ensures kept { take result rows.new.items ++ filter (λ b. not (is_of serial b)) (drop (position + 1) rows.new.items)
-        ≡ take end rows.old.items ++ filter (λ b. not (is_of serial b)) (drop position rows.old.items) }
+    ensures kept { take result rows.new.items
+        ++ filter (λ b. not (is_build_of serial b)) (drop (position + 1) rows.new.items)
+        ≡ take end rows.old.items ++ filter (λ b. not (is_build_of serial b)) (drop position rows.old.items) }
     ensures order { result ≤ position + 1 }
     ensures len { vec_len rows.new ≡ vec_len rows.old }
     ensures capacity { vec_capacity rows.new ≡ vec_capacity rows.old }
@@ -117,9 +119,9 @@ fn keep_other(rows: &mut Vec<Build>, position: usize, end: usize, serial: Serial
 
 /// Drops the builds of a serial, of which none has a number below this one: those behind it move up, each once.
 fn drop_rows(rows: &mut Vec<Build>, first: u64, serial: Serial)
-    requires rising { RisesFrom number_of 0 rows.old.items }
+    requires rising { RisesFrom number_of_build 0 rows.old.items }
     requires lowest { AllByRecursion (λ b. b.serial ≡ serial → first ≤ b.number) rows.old.items }
-    ensures rows { rows.new.items ≡ filter (λ b. not (is_of serial b)) rows.old.items }
+    ensures rows { rows.new.items ≡ filter (λ b. not (is_build_of serial b)) rows.old.items }
     ensures len { vec_len rows.new ≤ vec_len rows.old }
     ensures capacity { vec_capacity rows.new ≡ vec_capacity rows.old }
 {
@@ -132,7 +134,7 @@ fn drop_rows(rows: &mut Vec<Build>, first: u64, serial: Serial)
 }
 
 fn set_outcome(rows: &mut Vec<Build>, number: BuildNo, outcome: Outcome)
-    requires { RisesFrom number_of 0 rows.old.items }
+    requires { RisesFrom number_of_build 0 rows.old.items }
     ensures rows { rows.new.items ≡ change_build number (with_outcome outcome) rows.old.items }
     ensures capacity { vec_capacity rows.new ≡ vec_capacity rows.old }
 {
@@ -143,7 +145,7 @@ fn set_outcome(rows: &mut Vec<Build>, number: BuildNo, outcome: Outcome)
 
 /// Stops a build, and gives what the index keeps of it.
 fn stop(rows: &mut Vec<Build>, number: BuildNo) -> Option<Pair>
-    requires { RisesFrom number_of 0 rows.old.items }
+    requires { RisesFrom number_of_build 0 rows.old.items }
     ensures rows { rows.new.items ≡ change_build number (with_live false) rows.old.items }
     ensures capacity { vec_capacity rows.new ≡ vec_capacity rows.old }
     ensures pair { IfSome result (λ pair. (pair.second ≡ number) × IsFit pair) }
@@ -161,8 +163,8 @@ fn stop(rows: &mut Vec<Build>, number: BuildNo) -> Option<Pair>
 
 /// The build of a number if it is a live one of this serial.
 fn live_one(rows: &[Build], number: u64, serial: Serial) -> Option<&Build>
-    requires { RisesFrom number_of 0 rows.now }
-    ensures { option_copied result ≡ passing number_of (is_live_of serial) rows.now number }
+    requires { RisesFrom number_of_build 0 rows.now }
+    ensures { option_copied result ≡ passing_at number_of_build (is_live_of serial) rows.now number }
 {
     let build = sorted::at(rows, number as u128)?;
     if build.live && build.serial == serial {
@@ -188,9 +190,9 @@ fn add_live(
     pairs: &[Pair],
     serial: Serial,
 ) -> Result<(), NoMemory>
-    requires { RisesFrom number_of 0 rows.now }
+    requires { RisesFrom number_of_build 0 rows.now }
     ensures { OnOk result (found.new
-        ≡ found.old ++ filter_map (λ p. passing number_of (is_live_of serial) rows.now p.second) pairs.now) }
+        ≡ found.old ++ filter_map (λ p. passing_at number_of_build (is_live_of serial) rows.now p.second) pairs.now) }
 {
     for pair in pairs {
         push_copy(found, live_one(rows, pair.second, serial))?;
@@ -201,7 +203,7 @@ fn add_live(
 impl BuildTable {
     pub fn new(alloc: Global) -> Self
         ensures rows { result.rows.items ≡ [] }
-        ensures kept { AreKept result }
+        ensures kept { IsKeptBuildTable result }
     {
         BuildTable {
             rows: Vec::new(alloc),
@@ -212,9 +214,9 @@ impl BuildTable {
 
     /// Makes room for `n` more builds. The builds stay, whatever the result.
     pub fn make_room(&mut self, n: usize) -> Result<(), AllocError>
-        requires { AreKept self.old }
+        requires { IsKeptBuildTable self.old }
         ensures rows { self.new.rows.items ≡ self.old.rows.items }
-        ensures kept { AreKept self.new }
+        ensures kept { IsKeptBuildTable self.new }
         ensures room { OnOk result (HaveRoom n self.new) }
     {
         self.rows.reserve(n)?;
@@ -225,10 +227,10 @@ impl BuildTable {
 
     /// Puts a build where there is room, in place of one with its number.
     pub fn put(&mut self, build: Build)
-        requires kept { AreKept self.old }
+        requires kept { IsKeptBuildTable self.old }
         requires room { HaveRoom 1 self.old }
-        ensures rows { self.new.rows.items ≡ put_by number_of build self.old.rows.items }
-        ensures kept { AreKept self.new }
+        ensures rows { self.new.rows.items ≡ put_by number_of_build build self.old.rows.items }
+        ensures kept { IsKeptBuildTable self.new }
         ensures room { (n : ℕ) → HaveRoom (suc n) self.old → HaveRoom n self.new }
     {
         let pair = Pair {
@@ -241,9 +243,9 @@ impl BuildTable {
     }
 
     pub fn set_outcome(&mut self, number: BuildNo, outcome: Outcome)
-        requires kept { AreKept self.old }
+        requires kept { IsKeptBuildTable self.old }
         ensures rows { self.new.rows.items ≡ change_build number (with_outcome outcome) self.old.rows.items }
-        ensures kept { AreKept self.new }
+        ensures kept { IsKeptBuildTable self.new }
         ensures room { (n : ℕ) → HaveRoom n self.old → HaveRoom n self.new }
     {
         set_outcome(&mut self.rows, number, outcome);
@@ -251,9 +253,9 @@ impl BuildTable {
 
     /// The build stops being live.
     pub fn stop(&mut self, number: BuildNo)
-        requires kept { AreKept self.old }
+        requires kept { IsKeptBuildTable self.old }
         ensures rows { self.new.rows.items ≡ change_build number (with_live false) self.old.rows.items }
-        ensures kept { AreKept self.new }
+        ensures kept { IsKeptBuildTable self.new }
         ensures room { (n : ℕ) → HaveRoom n self.old → HaveRoom n self.new }
     {
         if let Some(pair) = stop(&mut self.rows, number) {
@@ -263,9 +265,9 @@ impl BuildTable {
 
     /// The build is no longer there, if it was.
     pub fn remove(&mut self, number: BuildNo)
-        requires kept { AreKept self.old }
-        ensures rows { self.new.rows.items ≡ without number_of number self.old.rows.items }
-        ensures kept { AreKept self.new }
+        requires kept { IsKeptBuildTable self.old }
+        ensures rows { self.new.rows.items ≡ without number_of_build number self.old.rows.items }
+        ensures kept { IsKeptBuildTable self.new }
         ensures room { (n : ℕ) → HaveRoom n self.old → HaveRoom n self.new }
     {
         let key = number.get() as u128;
@@ -279,9 +281,9 @@ impl BuildTable {
 
     /// All builds of a serial go. This costs what goes, and one move of what stays behind the first of them.
     pub fn drop_of(&mut self, serial: Serial)
-        requires kept { AreKept self.old }
-        ensures rows { self.new.rows.items ≡ filter (λ b. not (is_of serial b)) self.old.rows.items }
-        ensures kept { AreKept self.new }
+        requires kept { IsKeptBuildTable self.old }
+        ensures rows { self.new.rows.items ≡ filter (λ b. not (is_build_of serial b)) self.old.rows.items }
+        ensures kept { IsKeptBuildTable self.new }
         ensures room { (n : ℕ) → HaveRoom n self.old → HaveRoom n self.new }
     {
         if let Some(first) = first_number(&self.told, serial) {
@@ -292,7 +294,7 @@ impl BuildTable {
     }
 
     pub fn get(&self, number: BuildNo) -> Result<Option<Build>, NoMemory>
-        requires { AreKept self.now }
+        requires { IsKeptBuildTable self.now }
         ensures { IfOk result (λ found. found ≡ find (λ b. b.number == number) self.now.rows.items) }
     {
         match sorted::at(&self.rows, number.get() as u128) {
@@ -303,7 +305,7 @@ impl BuildTable {
 
     /// Adds the live builds of a serial, by number.
     pub fn add_live(&self, found: &mut Sequence<Build>, serial: Serial) -> Result<(), NoMemory>
-        requires { AreKept self.now }
+        requires { IsKeptBuildTable self.now }
         ensures { OnOk result (found.new ≡ found.old ++ filter (is_live_of serial) self.now.rows.items) }
     {
         let pairs = of_first(&self.live, serial.get());
@@ -313,7 +315,7 @@ impl BuildTable {
 
     /// The live builds of a serial, by number.
     pub fn live_of(&self, alloc: Global, serial: Serial) -> Result<Sequence<Build>, NoMemory>
-        requires { AreKept self.now }
+        requires { IsKeptBuildTable self.now }
         ensures { IfOk result (λ found. found ≡ filter (is_live_of serial) self.now.rows.items) }
     {
         let mut found = Sequence::new(alloc);
@@ -323,8 +325,8 @@ impl BuildTable {
 
     /// How many builds of a serial there are, live or not.
     pub fn count_of(&self, serial: Serial) -> u64
-        requires { AreKept self.now }
-        ensures { result ≡ length (filter (is_of serial) self.now.rows.items) }
+        requires { IsKeptBuildTable self.now }
+        ensures { result ≡ length (filter (is_build_of serial) self.now.rows.items) }
     {
         of_first(&self.told, serial.get()).len() as u64
     }
@@ -336,9 +338,9 @@ impl BuildTable {
         serial: Serial,
         most: u32,
     ) -> Result<Sequence<BuildSummary>, NoMemory>
-        requires { AreKept self.now }
+        requires { IsKeptBuildTable self.now }
         ensures { IfOk result (λ found. found
-            ≡ map summary_of (last_of most (filter (is_of serial) self.now.rows.items))) }
+            ≡ map summary_of (last_of most (filter (is_build_of serial) self.now.rows.items))) }
     {
         let pairs = last(of_first(&self.told, serial.get()), most);
         summaries(alloc, &self.rows, pairs)

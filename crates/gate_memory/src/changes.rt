@@ -16,8 +16,9 @@ ghost use Rattle.gate_memory.specs.TableReads.{needing_by, IsWhatRowsTellOf};
 ghost use Rattle.gate_memory.specs.Pairs.{pair_key};
 ghost use Rattle.gate_memory.specs.declared.pairs.Pair.{Pair};
 ghost use Rattle.gate_memory.specs.Needs.{AreInOrder, IsRising, IsSmall, TellsNeedsOf, TellsNoneOf, pair_of_need};
-ghost use Rattle.gate_memory.specs.Changes.{AreApart, FindsNumbers, IsKept, HasRoom, IsWhatRowsTell, ready_by};
-ghost use Rattle.gate_memory.specs.Changes.{in_order, changes_of, entry_of};
+ghost use Rattle.gate_memory.specs.Changes.{AreApart, FindsNumbers, IsKeptChangeTable, HasRoomForChanges};
+ghost use Rattle.gate_memory.specs.Changes.{IsWhatRowsTell, ready_by};
+ghost use Rattle.gate_memory.specs.Changes.{in_order, changes_of, indexed_ready};
 
 use crate::needs::{forget_needs, note_needs};
 use crate::pairs::{Pair, of_first};
@@ -180,7 +181,7 @@ fn approval_of(rows: &[ChangeRow], positions: &HashMap<u64, usize>, number: u64)
 fn drop_ready(ready: &mut Vec<Pair>, approval: Option<u64>, number: u64)
     requires { RisesFrom pair_key 0 ready.old.items }
     ensures ready { ready.new.items
-        ≡ option_map_or (λ a. without pair_key (pair_key (entry_of number a)) ready.old.items)
+        ≡ option_map_or (λ a. without pair_key (pair_key (indexed_ready number a)) ready.old.items)
         approval ready.old.items }
     ensures rising { RisesFrom pair_key 0 ready.new.items }
     ensures len { vec_len ready.new ≤ vec_len ready.old }
@@ -199,7 +200,7 @@ fn note_ready(ready: &mut Vec<Pair>, approval: Option<u64>, number: u64)
     requires room { vec_len ready.old < vec_capacity ready.old }
     requires rising { RisesFrom pair_key 0 ready.old.items }
     ensures ready { ready.new.items
-        ≡ option_map_or (λ a. put_by pair_key (entry_of number a) ready.old.items) approval ready.old.items }
+        ≡ option_map_or (λ a. put_by pair_key (indexed_ready number a) ready.old.items) approval ready.old.items }
     ensures rising { RisesFrom pair_key 0 ready.new.items }
     ensures len { vec_len ready.new ≤ vec_len ready.old + 1 }
     ensures capacity { vec_capacity ready.new ≡ vec_capacity ready.old }
@@ -356,7 +357,7 @@ fn by_approval(ready: Sequence<Ready>) -> Sequence<Ready>
 impl ChangeTable {
     pub fn new(alloc: Global) -> Self
         ensures rows { changes_of result ≡ [] }
-        ensures kept { IsKept result }
+        ensures kept { IsKeptChangeTable result }
     {
         ChangeTable {
             rows: Vec::new(alloc),
@@ -368,10 +369,10 @@ impl ChangeTable {
 
     /// Makes room for `n` more changes, which have so many needs. The changes stay, whatever the result.
     pub fn make_room(&mut self, n: usize, needs: usize) -> Result<(), AllocError>
-        requires { IsKept self.old }
+        requires { IsKeptChangeTable self.old }
         ensures rows { changes_of self.new ≡ changes_of self.old }
-        ensures kept { IsKept self.new }
-        ensures room { OnOk result (HasRoom n needs self.new) }
+        ensures kept { IsKeptChangeTable self.new }
+        ensures room { OnOk result (HasRoomForChanges n needs self.new) }
     {
         self.rows.reserve(n)?;
         self.positions.reserve(n)?;
@@ -382,11 +383,11 @@ impl ChangeTable {
 
     /// Puts a row where there is room, in place of one with its number.
     pub fn put(&mut self, row: ChangeRow)
-        requires kept { IsKept self.old }
-        requires room { HasRoom 1 (length row.change.needs) self.old }
+        requires kept { IsKeptChangeTable self.old }
+        requires room { HasRoomForChanges 1 (length row.change.needs) self.old }
         ensures rows { changes_of self.new ≡ put_by number_of_change row (changes_of self.old) }
-        ensures kept { IsKept self.new }
-        ensures room { (n m : ℕ) → HasRoom (suc n) (length row.change.needs + m) self.old → HasRoom n m self.new }
+        ensures kept { IsKeptChangeTable self.new }
+        ensures room { (n m : ℕ) → HasRoomForChanges (suc n) (length row.change.needs + m) self.old → HasRoomForChanges n m self.new }
     {
         let number = number_of_row(&row);
         let approval = row.approval;
@@ -403,10 +404,10 @@ impl ChangeTable {
 
     /// Sets the stage of a change, if it is there: it is ready no longer.
     pub fn set_stage(&mut self, number: ChangeNo, stage: Stage)
-        requires { IsKept self.old }
+        requires { IsKeptChangeTable self.old }
         ensures rows { changes_of self.new ≡ change_known number (at_stage stage) (changes_of self.old) }
-        ensures kept { IsKept self.new }
-        ensures room { (n m : ℕ) → HasRoom n m self.old → HasRoom n m self.new }
+        ensures kept { IsKeptChangeTable self.new }
+        ensures room { (n m : ℕ) → HasRoomForChanges n m self.old → HasRoomForChanges n m self.new }
     {
         let number = number.get();
         drop_ready(
@@ -419,10 +420,10 @@ impl ChangeTable {
 
     /// The change is no longer there, if it was.
     pub fn remove(&mut self, number: ChangeNo)
-        requires kept { IsKept self.old }
+        requires kept { IsKeptChangeTable self.old }
         ensures rows { changes_of self.new ≡ without number_of_change number (changes_of self.old) }
-        ensures kept { IsKept self.new }
-        ensures room { (n m : ℕ) → HasRoom n m self.old → HasRoom n m self.new }
+        ensures kept { IsKeptChangeTable self.new }
+        ensures room { (n m : ℕ) → HasRoomForChanges n m self.old → HasRoomForChanges n m self.new }
     {
         let number = number.get();
         forget_row(&mut self.needs, &self.rows, &self.positions, number);
@@ -435,7 +436,7 @@ impl ChangeTable {
     }
 
     fn row(&self, number: ChangeNo) -> Option<&ChangeRow>
-        requires { IsKept self.now }
+        requires { IsKeptChangeTable self.now }
         ensures { option_copied result ≡ find (λ r. r.change.number == number) (changes_of self.now) }
     {
         row_of(&self.rows, &self.positions, number.get())
@@ -443,14 +444,14 @@ impl ChangeTable {
 
     /// Whether a change is there.
     pub fn has(&self, number: ChangeNo) -> bool
-        requires { IsKept self.now }
+        requires { IsKeptChangeTable self.now }
         ensures { result ≡ is_some (find (λ r. r.change.number == number) (changes_of self.now)) }
     {
         self.row(number).is_some()
     }
 
     pub fn get(&self, number: ChangeNo) -> Result<Option<Change>, NoMemory>
-        requires { IsKept self.now }
+        requires { IsKeptChangeTable self.now }
         ensures { IfOk result (λ found. found ≡ change_in (changes_of self.now) number) }
     {
         match self.row(number) {
@@ -461,7 +462,7 @@ impl ChangeTable {
 
     /// The number of a change's approval, while it is ready.
     pub fn approval(&self, number: ChangeNo) -> Option<u64>
-        requires { IsKept self.now }
+        requires { IsKeptChangeTable self.now }
         ensures { result ≡ approval_in (changes_of self.now) number }
     {
         approval_of(&self.rows, &self.positions, number.get())
@@ -469,7 +470,7 @@ impl ChangeTable {
 
     /// Pairs of which the second numbers tell the changes that need this one.
     pub fn needing(&self, change: ChangeNo) -> &[Pair]
-        requires { IsKept self.now }
+        requires { IsKeptChangeTable self.now }
         ensures rising { IsRising (map (λ p. p.second) result.now) }
         ensures small { AllByRecursion IsSmall result.now }
         ensures told { (n : ℕ) → list_any (λ m. m == change) (needs_in (changes_of self.now) n) ≡ true →
@@ -481,7 +482,7 @@ impl ChangeTable {
 
     /// Whether a change needs another.
     pub fn needs(&self, number: ChangeNo, other: ChangeNo) -> bool
-        requires { IsKept self.now }
+        requires { IsKeptChangeTable self.now }
         ensures { result ≡ list_any (λ m. m == other) (needs_in (changes_of self.now) number) }
     {
         match self.row(number) {
@@ -492,7 +493,7 @@ impl ChangeTable {
 
     /// The ready changes in order of approval: exact for any list that the rows tell.
     pub fn ready(&self, alloc: Global) -> Result<Sequence<Ready>, NoMemory>
-        requires { IsKept self.now }
+        requires { IsKeptChangeTable self.now }
         ensures { IfOk result (IsWhatRowsTell (changes_of self.now)) }
     {
         let found = collect_ready(alloc, &self.rows, &self.positions, &self.ready)?;
@@ -506,7 +507,7 @@ impl ChangeTable {
         alloc: Global,
         change: ChangeNo,
     ) -> Result<Sequence<Ready>, NoMemory>
-        requires { IsKept self.now }
+        requires { IsKeptChangeTable self.now }
         ensures { IfOk result (IsWhatRowsTellOf (changes_of self.now) change) }
     {
         let pairs = self.needing(change);

@@ -4,12 +4,12 @@ ghost use Rattle.std.specs.List.{AllByRecursion, cons_option, filter_map};
 ghost use Rattle.std.specs.Option.{option_copied};
 ghost use Rattle.gate_types.specs.Keys.{serial_of_item};
 ghost use Rattle.gate_types.specs.Rising.{RisesFrom};
-ghost use Rattle.gate_memory.specs.Builds.{AreKept};
+ghost use Rattle.gate_memory.specs.Builds.{IsKeptBuildTable};
 ghost use Rattle.gate_memory.specs.Changes as change_table;
 ghost use Rattle.gate_memory.specs.Plans as plan_table;
 ghost use Rattle.gate_memory.specs.Needs.{IsRising, IsSmall, TellsSerials};
 ghost use Rattle.gate_memory.specs.Queues as queue_table;
-ghost use Rattle.gate_memory.specs.Sorted.{passing};
+ghost use Rattle.gate_memory.specs.Sorted.{passing_at};
 ghost use Rattle.gate_book_trait.specs.RowReads.{is_needing_in, needing_in, plans_of_rows};
 ghost use Rattle.gate_memory.specs.TableReads.{builds_of_rows};
 
@@ -40,7 +40,7 @@ pub fn plans_of(
     plans: &PlanTable,
     items: &[Item],
 ) -> Result<Sequence<Plan>, NoMemory>
-    requires { plan_table.IsKept plans.now }
+    requires { plan_table.IsKeptPlanTable plans.now }
     ensures { IfOk result (λ found. found ≡ plans_of_rows plans.now.rows.items items.now) }
 {
     let mut found = Sequence::new(alloc);
@@ -56,7 +56,7 @@ pub fn builds_of(
     builds: &BuildTable,
     items: &[Item],
 ) -> Result<Sequence<Build>, NoMemory>
-    requires { AreKept builds.now }
+    requires { IsKeptBuildTable builds.now }
     ensures { IfOk result (λ found. found ≡ builds_of_rows builds.now.rows.items items.now) }
 {
     let mut found = Sequence::new(alloc);
@@ -83,10 +83,11 @@ fn if_needing<'a>(
     change: ChangeNo,
     above: u64,
 ) -> Option<&'a Item>
-    requires kept { change_table.IsKept changes.now }
+    requires kept { change_table.IsKeptChangeTable changes.now }
     requires rising { RisesFrom serial_of_item 0 items.now }
     ensures { option_copied result
-        ≡ passing serial_of_item (is_needing_in (change_table.changes_of changes.now) change above) items.now serial }
+        ≡ passing_at serial_of_item
+        (is_needing_in (change_table.changes_of changes.now) change above) items.now serial }
 {
     let item = sorted::at(items, serial as u128)?;
     if item.serial.get() > above && changes.needs(item.change, change) {
@@ -105,10 +106,10 @@ fn needing_at(
     change: ChangeNo,
     above: u64,
 ) -> Result<Sequence<Item>, NoMemory>
-    requires kept { change_table.IsKept changes.now }
+    requires kept { change_table.IsKeptChangeTable changes.now }
     requires rising { RisesFrom serial_of_item 0 items.now }
     ensures { IfOk result (λ found. found ≡ filter_map
-        (passing serial_of_item (is_needing_in (change_table.changes_of changes.now) change above) items.now)
+        (passing_at serial_of_item (is_needing_in (change_table.changes_of changes.now) change above) items.now)
         serials.now) }
 {
     let mut found = Sequence::new(alloc);
@@ -123,11 +124,12 @@ fn needing_at(
 
 /// The serials of a queue's items of the changes that these pairs name second.
 fn serials_of(alloc: Global, queue: &QueueTable, pairs: &[Pair]) -> Result<Vec<u64>, NoMemory>
-    requires kept { queue_table.IsKept queue.now }
+    requires kept { queue_table.IsKeptQueueTable queue.now }
     requires small { AllByRecursion IsSmall pairs.now }
     ensures rising { IfOk result (λ serials. IsRising serials.items) }
     ensures told { IfOk result (λ serials.
-        AllByRecursion (λ p. TellsSerials p.second serials.items (queue_table.rows_of queue.now).items) pairs.now) }
+        AllByRecursion
+        (λ p. TellsSerials p.second serials.items (queue_table.rows_of_table queue.now).items) pairs.now) }
 {
     let mut serials = Vec::new(alloc);
     for pair in pairs {
@@ -144,10 +146,10 @@ pub fn needing_of(
     change: ChangeNo,
     above: u64,
 ) -> Result<Sequence<Item>, NoMemory>
-    requires queue { queue_table.IsKept queue.now }
-    requires changes { change_table.IsKept changes.now }
+    requires queue { queue_table.IsKeptQueueTable queue.now }
+    requires changes { change_table.IsKeptChangeTable changes.now }
     ensures { IfOk result (λ found. found ≡ needing_in (change_table.changes_of changes.now) change above
-        (queue_table.rows_of queue.now).items) }
+        (queue_table.rows_of_table queue.now).items) }
 {
     let serials = serials_of(alloc, queue, changes.needing(change))?;
     let found = needing_at(alloc, queue.item_rows(), &serials, changes, change, above)?;

@@ -72,9 +72,9 @@ impl HoldsQueue for QueueTable {
 
     ghost edited = { held.edited_whole };
 
-    ghost IsKept = { queue.IsKept };
+    ghost IsKept = { queue.IsKeptQueueTable };
 
-    ghost HasRoom = { queue.HasRoom };
+    ghost HasRoom = { queue.HasRoomForRows };
 
     fn make_room(&mut self, n: usize) -> Result<(), AllocError> {
         QueueTable::make_room(self, n)

@@ -3,7 +3,7 @@ ghost use Rattle.std.specs.Prelude.{◌≡◌, length, option_map, IfOk, IfSome}
 ghost use Rattle.std.specs.Option.{option_copied};
 ghost use Rattle.gate_book_trait.specs.Reads as read;
 ghost use Rattle.gate_memory.specs.Named.{items_found};
-ghost use Rattle.gate_memory.specs.Queues.{IsKept, rows_of};
+ghost use Rattle.gate_memory.specs.Queues.{IsKeptQueueTable, rows_of_table};
 
 use crate::queues::QueueTable;
 use gate_types::names::NoMemory;
@@ -12,7 +12,7 @@ use gate_types::sequence::Sequence;
 use std::alloc::Global;
 
 pub fn window(table: Option<&QueueTable>) -> Option<u32>
-    ensures { result ≡ option_map (λ q. q.window) (option_map rows_of (option_copied table.entry)) }
+    ensures { result ≡ option_map (λ q. q.window) (option_map rows_of_table (option_copied table.entry)) }
 {
     match table {
         Some(table) => Some(table.window()),
@@ -41,7 +41,7 @@ pub fn items(alloc: Global, table: Option<&QueueTable>) -> Result<Sequence<Item>
 
 /// The first item above a serial.
 pub fn next_item(table: Option<&QueueTable>, above: u64) -> Option<Item>
-    requires { IfSome table (λ t. IsKept t.now) }
+    requires { IfSome table (λ t. IsKeptQueueTable t.now) }
     ensures { result ≡ read.first_above above (items_found (option_copied table.entry)) }
 {
     match table {
@@ -52,8 +52,8 @@ pub fn next_item(table: Option<&QueueTable>, above: u64) -> Option<Item>
 
 /// The last item below a serial.
 pub fn last_item(table: Option<&QueueTable>, below: u64) -> Option<Item>
-    requires { IfSome table (λ t. IsKept t.now) }
-    ensures { result ≡ read.last_below below (items_found (option_copied table.entry)) }
+    requires { IfSome table (λ t. IsKeptQueueTable t.now) }
+    ensures { result ≡ read.last_item_below below (items_found (option_copied table.entry)) }
 {
     match table {
         Some(table) => table.last_item(below),
@@ -68,7 +68,7 @@ pub fn next_items(
     above: u64,
     most: u32,
 ) -> Result<Sequence<Item>, NoMemory>
-    requires { IfSome table (λ t. IsKept t.now) }
+    requires { IfSome table (λ t. IsKeptQueueTable t.now) }
     ensures { IfOk result (λ found. found
         ≡ read.first_items_above above most (items_found (option_copied table.entry))) }
 {

@@ -2,7 +2,7 @@
 ghost use Rattle.std.specs.Prelude.{◌≡◌, ◌≢◌, ◌≤◌, ◌+◌, ◌⊎◌, ℕ, length, OnOk, IfSome, vec_len, vec_capacity};
 ghost use Rattle.std.specs.List.{AllByRecursion};
 ghost use Rattle.gate_types.specs.Rising.{In};
-ghost use Rattle.gate_memory.specs.Needs.{AreInOrder, IsRising, TellsNeedsOf, TellsNoneOf, needs_of, needs_of_all};
+ghost use Rattle.gate_memory.specs.Needs.{AreInOrder, IsRising, TellsNeedsOf, TellsNoneOf, needs_brought, needs_of_all};
 ghost use Rattle.gate_memory.specs.declared.pairs.Pair.{Pair};
 
 use crate::pairs::{Pair, paired};
@@ -73,7 +73,7 @@ pub fn add_seconds(numbers: &mut Vec<u64>, pairs: &[Pair]) -> Result<(), NoMemor
 }
 
 fn needs_of(edit: &Edit) -> usize
-    ensures { result ≡ needs_of edit.now }
+    ensures { result ≡ needs_brought edit.now }
 {
     match edit {
         Edit::PutChange { change, .. } => change.needs.as_slice().len(),

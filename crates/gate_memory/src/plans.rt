@@ -5,7 +5,7 @@ ghost use Rattle.gate_types.specs.Keys.{serial_of_plan};
 ghost use Rattle.gate_types.specs.Rising.{RisesFrom};
 ghost use Rattle.gate_types.specs.Tables.{unmark};
 ghost use Rattle.gate_memory.specs.Sorted.{without};
-ghost use Rattle.gate_memory.specs.Plans.{IsKept, HasRoom};
+ghost use Rattle.gate_memory.specs.Plans.{IsKeptPlanTable, HasRoomForPlans};
 
 use crate::sorted;
 use crate::sorted::Keyed;
@@ -45,7 +45,7 @@ fn unmark(rows: &mut Vec<Plan>, serial: Serial)
 impl PlanTable {
     pub fn new(alloc: Global) -> Self
         ensures rows { result.rows.items ≡ [] }
-        ensures kept { IsKept result }
+        ensures kept { IsKeptPlanTable result }
     {
         PlanTable {
             rows: Vec::new(alloc),
@@ -54,10 +54,10 @@ impl PlanTable {
 
     /// Makes room for `n` more plans. The plans stay, whatever the result.
     pub fn make_room(&mut self, n: usize) -> Result<(), AllocError>
-        requires { IsKept self.old }
+        requires { IsKeptPlanTable self.old }
         ensures rows { self.new.rows.items ≡ self.old.rows.items }
-        ensures kept { IsKept self.new }
-        ensures room { OnOk result (HasRoom n self.new) }
+        ensures kept { IsKeptPlanTable self.new }
+        ensures room { OnOk result (HasRoomForPlans n self.new) }
     {
         self.rows.reserve(n)?;
         Ok(())
@@ -65,37 +65,37 @@ impl PlanTable {
 
     /// Puts a plan where there is room, in place of one under its serial.
     pub fn put(&mut self, plan: Plan)
-        requires kept { IsKept self.old }
-        requires room { HasRoom 1 self.old }
+        requires kept { IsKeptPlanTable self.old }
+        requires room { HasRoomForPlans 1 self.old }
         ensures rows { self.new.rows.items ≡ put_by serial_of_plan plan self.old.rows.items }
-        ensures kept { IsKept self.new }
-        ensures room { (n : ℕ) → HasRoom (suc n) self.old → HasRoom n self.new }
+        ensures kept { IsKeptPlanTable self.new }
+        ensures room { (n : ℕ) → HasRoomForPlans (suc n) self.old → HasRoomForPlans n self.new }
     {
         sorted::put(&mut self.rows, plan);
     }
 
     /// Drops the plan under a serial, if there is one.
     pub fn remove(&mut self, serial: Serial)
-        requires { IsKept self.old }
+        requires { IsKeptPlanTable self.old }
         ensures rows { self.new.rows.items ≡ without serial_of_plan serial self.old.rows.items }
-        ensures kept { IsKept self.new }
-        ensures room { (n : ℕ) → HasRoom n self.old → HasRoom n self.new }
+        ensures kept { IsKeptPlanTable self.new }
+        ensures room { (n : ℕ) → HasRoomForPlans n self.old → HasRoomForPlans n self.new }
     {
         sorted::remove(&mut self.rows, serial.get() as u128);
     }
 
     /// The plan under a serial fails fast no longer, if there is one.
     pub fn unmark(&mut self, serial: Serial)
-        requires { IsKept self.old }
+        requires { IsKeptPlanTable self.old }
         ensures rows { self.new.rows.items ≡ unmark serial self.old.rows.items }
-        ensures kept { IsKept self.new }
-        ensures room { (n : ℕ) → HasRoom n self.old → HasRoom n self.new }
+        ensures kept { IsKeptPlanTable self.new }
+        ensures room { (n : ℕ) → HasRoomForPlans n self.old → HasRoomForPlans n self.new }
     {
         unmark(&mut self.rows, serial);
     }
 
     pub fn get(&self, serial: Serial) -> Result<Option<Plan>, NoMemory>
-        requires { IsKept self.now }
+        requires { IsKeptPlanTable self.now }
         ensures { IfOk result (λ found. found ≡ find (λ p. p.serial == serial) self.now.rows.items) }
     {
         match sorted::at(&self.rows, serial.get() as u128) {
@@ -106,7 +106,7 @@ impl PlanTable {
 
     /// Whether there is a plan under a serial.
     pub fn has(&self, serial: Serial) -> bool
-        requires { IsKept self.now }
+        requires { IsKeptPlanTable self.now }
         ensures { result ≡ is_some (find (λ p. p.serial == serial) self.now.rows.items) }
     {
         match sorted::at(&self.rows, serial.get() as u128) {

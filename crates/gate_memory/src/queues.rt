@@ -6,11 +6,11 @@ ghost use Rattle.std.specs.Option.{option_copied};
 ghost use Rattle.gate_types.specs.Names.{same_name};
 ghost use Rattle.gate_types.specs.State.{put_by};
 ghost use Rattle.gate_types.specs.Tables.{edited_queue};
-ghost use Rattle.gate_memory.specs.Sorted.{passing, first_of, without};
+ghost use Rattle.gate_memory.specs.Sorted.{passing_at, first_of, without};
 ghost use Rattle.gate_memory.specs.Pairs.{IsFit};
 ghost use Rattle.gate_memory.specs.Needs.{IsRising, TellsSerials};
 ghost use Rattle.gate_memory.specs.Queues as entries;
-ghost use Rattle.gate_memory.specs.Queues.{IsKept, HasRoom, rows_of, is_of_change};
+ghost use Rattle.gate_memory.specs.Queues.{IsKeptQueueTable, HasRoomForRows, rows_of_table, is_item_of};
 ghost use Rattle.gate_book_trait.specs.RowReads.{landing_serial};
 ghost use Rattle.gate_book_trait.specs.Reads as read;
 ghost use Rattle.gate_types.specs.Limits.{most_listed};
@@ -65,7 +65,7 @@ impl Keyed for LandingRow {
 }
 
 fn entry_of(item: &Item) -> Pair
-    ensures entry { result ≡ entries.entry_of item.now }
+    ensures entry { result ≡ entries.indexed_item item.now }
     ensures fit { IsFit result }
 {
     Pair {
@@ -103,9 +103,9 @@ fn put_row(items: &mut Vec<Item>, item: &Item)
 
 impl QueueTable {
     pub fn new(alloc: Global, name: Name, window: u32) -> Self
-        ensures rows { rows_of result
+        ensures rows { rows_of_table result
             ≡ record { name = name; window = window; items = []; landings = []; reports = [] } }
-        ensures kept { IsKept result }
+        ensures kept { IsKeptQueueTable result }
     {
         QueueTable {
             name,
@@ -119,10 +119,10 @@ impl QueueTable {
 
     /// Makes room for `n` more rows of each kind. The rows stay, whatever the result.
     pub fn make_room(&mut self, n: usize) -> Result<(), AllocError>
-        requires { IsKept self.old }
-        ensures rows { rows_of self.new ≡ rows_of self.old }
-        ensures kept { IsKept self.new }
-        ensures room { OnOk result (HasRoom n self.new) }
+        requires { IsKeptQueueTable self.old }
+        ensures rows { rows_of_table self.new ≡ rows_of_table self.old }
+        ensures kept { IsKeptQueueTable self.new }
+        ensures room { OnOk result (HasRoomForRows n self.new) }
     {
         self.items.reserve(n)?;
         self.entries.reserve(n)?;
@@ -133,23 +133,23 @@ impl QueueTable {
 
     /// Puts an item where there is room, in place of one with its serial.
     pub fn put_item(&mut self, item: &Item)
-        requires kept { IsKept self.old }
-        requires room { HasRoom 1 self.old }
-        ensures rows { rows_of self.new
-            ≡ record (rows_of self.old) { items = put_by serial_of_item item.now self.old.items.items } }
-        ensures kept { IsKept self.new }
-        ensures room { (n : ℕ) → HasRoom (suc n) self.old → HasRoom n self.new }
+        requires kept { IsKeptQueueTable self.old }
+        requires room { HasRoomForRows 1 self.old }
+        ensures rows { rows_of_table self.new
+            ≡ record (rows_of_table self.old) { items = put_by serial_of_item item.now self.old.items.items } }
+        ensures kept { IsKeptQueueTable self.new }
+        ensures room { (n : ℕ) → HasRoomForRows (suc n) self.old → HasRoomForRows n self.new }
     {
         put_row(&mut self.items, item);
         sorted::put(&mut self.entries, entry_of(item));
     }
 
     fn drop_item(&mut self, serial: Serial)
-        requires kept { IsKept self.old }
-        ensures rows { rows_of self.new
-            ≡ record (rows_of self.old) { items = without serial_of_item serial self.old.items.items } }
-        ensures kept { IsKept self.new }
-        ensures room { (n : ℕ) → HasRoom (suc n) self.old → HasRoom n self.new }
+        requires kept { IsKeptQueueTable self.old }
+        ensures rows { rows_of_table self.new
+            ≡ record (rows_of_table self.old) { items = without serial_of_item serial self.old.items.items } }
+        ensures kept { IsKeptQueueTable self.new }
+        ensures room { (n : ℕ) → HasRoomForRows (suc n) self.old → HasRoomForRows n self.new }
     {
         let key = serial.get() as u128;
         if let Some(item) = sorted::at(&self.items, key) {
@@ -161,11 +161,11 @@ impl QueueTable {
 
     /// One edit, where there is room; it leaves the queue if it isn't of its rows.
     pub fn apply(&mut self, edit: &Edit)
-        requires kept { IsKept self.old }
-        requires room { HasRoom 1 self.old }
-        ensures rows { rows_of self.new ≡ edited_queue edit.now (rows_of self.old) }
-        ensures kept { IsKept self.new }
-        ensures room { (n : ℕ) → HasRoom (suc n) self.old → HasRoom n self.new }
+        requires kept { IsKeptQueueTable self.old }
+        requires room { HasRoomForRows 1 self.old }
+        ensures rows { rows_of_table self.new ≡ edited_queue edit.now (rows_of_table self.old) }
+        ensures kept { IsKeptQueueTable self.new }
+        ensures room { (n : ℕ) → HasRoomForRows (suc n) self.old → HasRoomForRows n self.new }
     {
         match edit {
             Edit::PutItem { queue, item } if same_name(queue, &self.name) => self.put_item(item),
@@ -197,27 +197,27 @@ impl QueueTable {
     }
 
     pub fn item(&self, serial: Serial) -> Option<&Item>
-        requires { IsKept self.now }
-        ensures { option_copied result ≡ find (λ i. i.serial == serial) (rows_of self.now).items }
+        requires { IsKeptQueueTable self.now }
+        ensures { option_copied result ≡ find (λ i. i.serial == serial) (rows_of_table self.now).items }
     {
         sorted::at(&self.items, serial.get() as u128)
     }
 
     /// The item of a change.
     pub fn item_of(&self, change: ChangeNo) -> Option<&Item>
-        requires { IsKept self.now }
-        ensures { option_copied result ≡ find (λ i. i.change == change) (rows_of self.now).items }
+        requires { IsKeptQueueTable self.now }
+        ensures { option_copied result ≡ find (λ i. i.change == change) (rows_of_table self.now).items }
     {
         first_item(&self.items, of_first(&self.entries, change.get()), change)
     }
 
     /// Adds the serials of the items of a change.
     pub fn add_serials(&self, serials: &mut Vec<u64>, change: u64) -> Result<(), NoMemory>
-        requires kept { IsKept self.now }
+        requires kept { IsKeptQueueTable self.now }
         requires rising { IsRising serials.old.items }
         requires next { change + 1 < 2 ^ 64 }
         ensures rising { OnOk result (IsRising serials.new.items) }
-        ensures told { OnOk result (TellsSerials change serials.new.items (rows_of self.now).items) }
+        ensures told { OnOk result (TellsSerials change serials.new.items (rows_of_table self.now).items) }
         ensures others { OnOk result ((n : ℕ) → In n serials.old.items → In n serials.new.items) }
     {
         add_seconds(serials, of_first(&self.entries, change))?;
@@ -226,10 +226,10 @@ impl QueueTable {
 
     /// The item of a change, with the name of this queue.
     pub fn queued(&self, change: ChangeNo) -> Result<Option<QueuedItem>, NoMemory>
-        requires { IsKept self.now }
+        requires { IsKeptQueueTable self.now }
         ensures { IfOk result (λ found. found
-            ≡ option_map (λ i. record { queue = (rows_of self.now).name; item = i })
-            (find (λ i. i.change == change) (rows_of self.now).items)) }
+            ≡ option_map (λ i. record { queue = (rows_of_table self.now).name; item = i })
+            (find (λ i. i.change == change) (rows_of_table self.now).items)) }
     {
         match self.item_of(change) {
             Some(item) => Ok(Some(QueuedItem {
@@ -241,7 +241,7 @@ impl QueueTable {
     }
 
     pub fn name(&self) -> &str
-        ensures { result.now ≡ (rows_of self.now).name }
+        ensures { result.now ≡ (rows_of_table self.now).name }
     {
         self.name.as_str()
     }
@@ -253,16 +253,16 @@ impl QueueTable {
     }
 
     pub fn window(&self) -> u32
-        ensures { result ≡ (rows_of self.now).window }
+        ensures { result ≡ (rows_of_table self.now).window }
     {
         self.window
     }
 
     /// The same queue with another window.
     pub fn resized(self, window: u32) -> QueueTable
-        requires { IsKept self }
-        ensures rows { rows_of result ≡ record (rows_of self) { window = window } }
-        ensures kept { IsKept result }
+        requires { IsKeptQueueTable self }
+        ensures rows { rows_of_table result ≡ record (rows_of_table self) { window = window } }
+        ensures kept { IsKeptQueueTable result }
     {
         let mut queue = self;
         queue.window = window;
@@ -270,57 +270,57 @@ impl QueueTable {
     }
 
     pub fn item_count(&self) -> u64
-        ensures { result ≡ length (rows_of self.now).items }
+        ensures { result ≡ length (rows_of_table self.now).items }
     {
         self.items.len() as u64
     }
 
     pub fn landing_count(&self) -> u64
-        ensures { result ≡ length (rows_of self.now).landings }
+        ensures { result ≡ length (rows_of_table self.now).landings }
     {
         self.landings.len() as u64
     }
 
     pub fn report_count(&self) -> u64
-        ensures { result ≡ length (rows_of self.now).reports }
+        ensures { result ≡ length (rows_of_table self.now).reports }
     {
         self.reports.rows().len() as u64
     }
 
     pub fn items(&self, alloc: Global) -> Result<Sequence<Item>, NoMemory>
-        ensures { IfOk result (λ found. found ≡ (rows_of self.now).items) }
+        ensures { IfOk result (λ found. found ≡ (rows_of_table self.now).items) }
     {
         let items = Vec::from_slice(alloc, &self.items)?;
         Ok(Sequence::from_vec(items))
     }
 
     pub fn item_rows(&self) -> &[Item]
-        requires { IsKept self.now }
-        ensures rows { result.now ≡ (rows_of self.now).items }
+        requires { IsKeptQueueTable self.now }
+        ensures rows { result.now ≡ (rows_of_table self.now).items }
         ensures rising { RisesFrom serial_of_item 0 result.now }
     {
         &self.items
     }
 
     pub fn report_rows(&self) -> &[ReportRow]
-        ensures { result.now ≡ (rows_of self.now).reports }
+        ensures { result.now ≡ (rows_of_table self.now).reports }
     {
         self.reports.rows()
     }
 
     /// The reports from the `from`th on, from 1, no more than 1,000.
     pub fn reports_from(&self, from: u64) -> &[ReportRow]
-        ensures { result.now ≡ take most_listed (drop (from - 1) (rows_of self.now).reports) }
+        ensures { result.now ≡ take most_listed (drop (from - 1) (rows_of_table self.now).reports) }
     {
         self.reports.page(from)
     }
 
     /// The report of the item of a serial that left, with the name of this queue.
     pub fn left(&self, serial: Serial) -> Result<Option<LeftItem>, NoMemory>
-        requires { IsKept self.now }
+        requires { IsKeptQueueTable self.now }
         ensures { IfOk result (λ found. found
-            ≡ option_map (λ r. record { queue = (rows_of self.now).name; report = r.report })
-            (find (λ r. r.report.serial == serial) (rows_of self.now).reports)) }
+            ≡ option_map (λ r. record { queue = (rows_of_table self.now).name; report = r.report })
+            (find (λ r. r.report.serial == serial) (rows_of_table self.now).reports)) }
     {
         match self.reports.of_serial(serial) {
             Some(row) => Ok(Some(LeftItem {
@@ -333,24 +333,24 @@ impl QueueTable {
 
     /// The first item above a serial.
     pub fn next_item(&self, above: u64) -> Option<Item>
-        requires { IsKept self.now }
-        ensures { result ≡ read.first_above above (rows_of self.now).items }
+        requires { IsKeptQueueTable self.now }
+        ensures { result ≡ read.first_above above (rows_of_table self.now).items }
     {
         sorted::above(&self.items, above).copied()
     }
 
     /// The last item below a serial.
     pub fn last_item(&self, below: u64) -> Option<Item>
-        requires { IsKept self.now }
-        ensures { result ≡ read.last_below below (rows_of self.now).items }
+        requires { IsKeptQueueTable self.now }
+        ensures { result ≡ read.last_item_below below (rows_of_table self.now).items }
     {
         sorted::last_below(&self.items, below).copied()
     }
 
     /// The items above a serial.
     pub fn items_behind(&self, above: u64) -> &[Item]
-        requires { IsKept self.now }
-        ensures rows { result.now ≡ filter (λ i. nat_lt above i.serial) (rows_of self.now).items }
+        requires { IsKeptQueueTable self.now }
+        ensures rows { result.now ≡ filter (λ i. nat_lt above i.serial) (rows_of_table self.now).items }
         ensures rising { RisesFrom serial_of_item 0 result.now }
     {
         sorted::behind(&self.items, above)
@@ -358,8 +358,8 @@ impl QueueTable {
 
     /// The items above one serial, up to another.
     pub fn items_between(&self, above: u64, last: Serial) -> &[Item]
-        requires { IsKept self.now }
-        ensures { result.now ≡ read.items_between above last (rows_of self.now).items }
+        requires { IsKeptQueueTable self.now }
+        ensures { result.now ≡ read.items_between above last (rows_of_table self.now).items }
     {
         sorted::up_to(self.items_behind(above), last.get())
     }
@@ -371,8 +371,8 @@ impl QueueTable {
         above: u64,
         most: u32,
     ) -> Result<Sequence<Item>, NoMemory>
-        requires { IsKept self.now }
-        ensures { IfOk result (λ found. found ≡ read.first_items_above above most (rows_of self.now).items) }
+        requires { IsKeptQueueTable self.now }
+        ensures { IfOk result (λ found. found ≡ read.first_items_above above most (rows_of_table self.now).items) }
     {
         let items = Vec::from_slice(alloc, sorted::first(self.items_behind(above), most))?;
         Ok(Sequence::from_vec(items))
@@ -380,8 +380,8 @@ impl QueueTable {
 
     /// How many landings have a lower serial, where these rise.
     pub fn landings_before(&self, serial: Serial) -> u64
-        ensures { RisesFrom landing_serial 0 (rows_of self.now).landings
-            → result ≡ length (filter (λ r. nat_lt (landing_serial r) serial) (rows_of self.now).landings) }
+        ensures { RisesFrom landing_serial 0 (rows_of_table self.now).landings
+            → result ≡ length (filter (λ r. nat_lt (landing_serial r) serial) (rows_of_table self.now).landings) }
     {
         count_below(&self.landings, serial) as u64
     }
@@ -397,7 +397,7 @@ fn count_below(landings: &[LandingRow], serial: Serial) -> usize
 /// The item of a serial, if it is of this change.
 fn item_if(items: &[Item], serial: u64, change: ChangeNo) -> Option<&Item>
     requires { RisesFrom serial_of_item 0 items.now }
-    ensures { option_copied result ≡ passing serial_of_item (is_of_change change) items.now serial }
+    ensures { option_copied result ≡ passing_at serial_of_item (is_item_of change) items.now serial }
 {
     let item = sorted::at(items, serial as u128)?;
     if item.change == change {
@@ -411,7 +411,7 @@ fn item_if(items: &[Item], serial: u64, change: ChangeNo) -> Option<&Item>
 fn first_item<'a>(items: &'a [Item], entries: &[Pair], change: ChangeNo) -> Option<&'a Item>
     requires { RisesFrom serial_of_item 0 items.now }
     ensures { option_copied result
-        ≡ first_of (filter_map (λ p. passing serial_of_item (is_of_change change) items.now p.second) entries.now) }
+        ≡ first_of (filter_map (λ p. passing_at serial_of_item (is_item_of change) items.now p.second) entries.now) }
 {
     for entry in entries {
         if let Some(item) = item_if(items, entry.second, change) {

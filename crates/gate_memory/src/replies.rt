@@ -5,7 +5,7 @@ ghost use Rattle.std.specs.Option.{option_or};
 ghost use Rattle.std.specs.HashMap.{get, spare};
 ghost use Rattle.gate_types.specs.Once.{kept_for};
 ghost use Rattle.gate_archive.specs.Feed.{behind_id};
-ghost use Rattle.gate_memory.specs.Replies.{same_id, IsKept, HasRoom};
+ghost use Rattle.gate_memory.specs.Replies.{same_id, IsKeptReplyTable, HasRoomForReplies};
 
 use gate_types::names::NoMemory;
 use gate_types::records::{Id, Kept};
@@ -53,7 +53,7 @@ fn behind_position(rows: &[Kept], position: usize) -> &[Kept]
 impl ReplyTable {
     pub fn new(alloc: Global) -> Self
         ensures rows { result.rows.items ≡ [] }
-        ensures kept { IsKept result }
+        ensures kept { IsKeptReplyTable result }
     {
         ReplyTable {
             rows: Vec::new(alloc),
@@ -63,10 +63,10 @@ impl ReplyTable {
 
     /// Makes room for `n` more deliveries. What is kept stays, whatever the result.
     pub fn make_room(&mut self, n: usize) -> Result<(), AllocError>
-        requires { IsKept self.old }
+        requires { IsKeptReplyTable self.old }
         ensures rows { self.new.rows.items ≡ self.old.rows.items }
-        ensures kept { IsKept self.new }
-        ensures room { OnOk result (HasRoom n self.new) }
+        ensures kept { IsKeptReplyTable self.new }
+        ensures room { OnOk result (HasRoomForReplies n self.new) }
     {
         self.rows.reserve(n)?;
         self.positions.reserve(n)?;
@@ -75,11 +75,11 @@ impl ReplyTable {
 
     /// Keeps a delivery, where there is room.
     pub fn keep(&mut self, kept: Kept)
-        requires kept { IsKept self.old }
-        requires room { HasRoom 1 self.old }
+        requires kept { IsKeptReplyTable self.old }
+        requires room { HasRoomForReplies 1 self.old }
         ensures rows { self.new.rows.items ≡ self.old.rows.items ++ kept ∷ [] }
-        ensures kept { IsKept self.new }
-        ensures room { (n : ℕ) → HasRoom (suc n) self.old → HasRoom n self.new }
+        ensures kept { IsKeptReplyTable self.new }
+        ensures room { (n : ℕ) → HasRoomForReplies (suc n) self.old → HasRoomForReplies n self.new }
     {
         note_position(&mut self.positions, kept.id.0, self.rows.len());
         self.rows.push_reserved(kept);
@@ -87,7 +87,7 @@ impl ReplyTable {
 
     /// What is kept under an id.
     pub fn get(&self, id: &Id) -> Result<Option<Kept>, NoMemory>
-        requires { IsKept self.now }
+        requires { IsKeptReplyTable self.now }
         ensures { IfOk result (λ found. found ≡ kept_for id.now self.now.rows.items) }
     {
         match self.positions.get(&id.0) {
@@ -105,7 +105,7 @@ impl ReplyTable {
 
     /// What was kept behind the delivery of an id, if there is one.
     pub fn behind(&self, id: &Id) -> Option<&[Kept]>
-        requires { IsKept self.now }
+        requires { IsKeptReplyTable self.now }
         ensures there { IfSome result (λ ks. behind_id id.now self.now.rows.items ≡ Some ks.now) }
         ensures missing { IfNone result (behind_id id.now self.now.rows.items ≡ None) }
     {

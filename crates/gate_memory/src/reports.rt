@@ -3,10 +3,10 @@ ghost use Rattle.std.specs.Prelude.{◌≡◌, ◌==◌, ◌-◌, ℕ, suc, [], 
 ghost use Rattle.std.specs.List.{filter_map};
 ghost use Rattle.std.specs.Option.{option_copied};
 ghost use Rattle.gate_types.specs.State.{put_by};
-ghost use Rattle.gate_memory.specs.Sorted.{passing, first_of};
+ghost use Rattle.gate_memory.specs.Sorted.{passing_at, first_of};
 ghost use Rattle.gate_memory.specs.Pairs.{IsFit};
 ghost use Rattle.gate_memory.specs.Reports as entries;
-ghost use Rattle.gate_memory.specs.Reports.{IsKept, HasRoom, is_of_serial};
+ghost use Rattle.gate_memory.specs.Reports.{IsKeptReportTable, HasRoomForReports, is_of_serial};
 ghost use Rattle.gate_types.specs.Limits.{most_listed};
 ghost use Rattle.gate_types.specs.Keys.{place_of_report};
 ghost use Rattle.gate_types.specs.Rising.{RisesFrom};
@@ -38,7 +38,7 @@ impl Keyed for ReportRow {
 
 /// What the index keeps of a report.
 fn entry_of(row: &ReportRow) -> Pair
-    ensures entry { result ≡ entries.entry_of row.now }
+    ensures entry { result ≡ entries.indexed_report row.now }
     ensures fit { IsFit result }
 {
     paired(row.report.serial.get(), row.place)
@@ -47,7 +47,7 @@ fn entry_of(row: &ReportRow) -> Pair
 /// The report at a place, if it is of this serial.
 fn report_if(rows: &[ReportRow], place: u64, serial: Serial) -> Option<&ReportRow>
     requires { RisesFrom place_of_report 0 rows.now }
-    ensures { option_copied result ≡ passing place_of_report (is_of_serial serial) rows.now place }
+    ensures { option_copied result ≡ passing_at place_of_report (is_of_serial serial) rows.now place }
 {
     let row = sorted::at(rows, place as u128)?;
     if row.report.serial == serial {
@@ -65,7 +65,7 @@ fn first_report<'a>(
 ) -> Option<&'a ReportRow>
     requires { RisesFrom place_of_report 0 rows.now }
     ensures { option_copied result
-        ≡ first_of (filter_map (λ p. passing place_of_report (is_of_serial serial) rows.now p.second) entries.now) }
+        ≡ first_of (filter_map (λ p. passing_at place_of_report (is_of_serial serial) rows.now p.second) entries.now) }
 {
     for entry in entries {
         if let Some(row) = report_if(rows, entry.second, serial) {
@@ -78,7 +78,7 @@ fn first_report<'a>(
 impl ReportTable {
     pub fn new(alloc: Global) -> Self
         ensures rows { result.rows.items ≡ [] }
-        ensures kept { IsKept result }
+        ensures kept { IsKeptReportTable result }
     {
         ReportTable {
             rows: Vec::new(alloc),
@@ -88,10 +88,10 @@ impl ReportTable {
 
     /// Makes room for `n` more reports. The reports stay, whatever the result.
     pub fn make_room(&mut self, n: usize) -> Result<(), AllocError>
-        requires { IsKept self.old }
+        requires { IsKeptReportTable self.old }
         ensures rows { self.new.rows.items ≡ self.old.rows.items }
-        ensures kept { IsKept self.new }
-        ensures room { OnOk result (HasRoom n self.new) }
+        ensures kept { IsKeptReportTable self.new }
+        ensures room { OnOk result (HasRoomForReports n self.new) }
     {
         self.rows.reserve(n)?;
         self.entries.reserve(n)?;
@@ -100,11 +100,11 @@ impl ReportTable {
 
     /// Puts a report where there is room, in place of one at its place.
     pub fn put(&mut self, row: ReportRow)
-        requires kept { IsKept self.old }
-        requires room { HasRoom 1 self.old }
+        requires kept { IsKeptReportTable self.old }
+        requires room { HasRoomForReports 1 self.old }
         ensures rows { self.new.rows.items ≡ put_by place_of_report row self.old.rows.items }
-        ensures kept { IsKept self.new }
-        ensures room { (n : ℕ) → HasRoom (suc n) self.old → HasRoom n self.new }
+        ensures kept { IsKeptReportTable self.new }
+        ensures room { (n : ℕ) → HasRoomForReports (suc n) self.old → HasRoomForReports n self.new }
     {
         sorted::put(&mut self.entries, entry_of(&row));
         sorted::put(&mut self.rows, row);
@@ -119,7 +119,7 @@ impl ReportTable {
 
     /// The first report of a serial.
     pub fn of_serial(&self, serial: Serial) -> Option<&ReportRow>
-        requires { IsKept self.now }
+        requires { IsKeptReportTable self.now }
         ensures { option_copied result ≡ find (λ r. r.report.serial == serial) self.now.rows.items }
     {
         first_report(&self.rows, of_first(&self.entries, serial.get()), serial)

@@ -4,7 +4,7 @@ ghost use Rattle.std.specs.Prelude.{slice_set, length, None, IfSome, IfNone, vec
 ghost use Rattle.std.specs.Option.{option_copied};
 ghost use Rattle.gate_types.specs.State.{put_by};
 ghost use Rattle.gate_types.specs.Rising.{RisesFrom};
-ghost use Rattle.gate_memory.specs.Sorted.{IsAt, position_in, last_below, without};
+ghost use Rattle.gate_memory.specs.Sorted.{IsAtPosition, position_in, last_below, without};
 
 /// A row with a key.
 pub trait Keyed {
@@ -35,7 +35,7 @@ fn row_at<T>(rows: &[T], position: usize) -> Option<&T>
 /// The position of the row of a key.
 pub fn position_at<T: Keyed>(rows: &[T], key: u128) -> Option<usize>
     requires { RisesFrom T.key 0 rows.now }
-    ensures there { IfSome result (λ position. IsAt T.key key rows.now position) }
+    ensures there { IfSome result (λ position. IsAtPosition T.key key rows.now position) }
     ensures missing { IfNone result (find (λ row. T.key row == key) rows.now ≡ None) }
 {
     let position = position_of(rows, key);

@@ -4,7 +4,7 @@ ghost use Rattle.std.specs.List.{filter_map, cons_option};
 ghost use Rattle.std.specs.Option.{option_copied};
 ghost use Rattle.gate_types.specs.Rising.{RisesFrom};
 ghost use Rattle.gate_archive.specs.ItemText.{last_of, summary_of};
-ghost use Rattle.gate_memory.specs.Builds.{number_of};
+ghost use Rattle.gate_memory.specs.Builds.{number_of_build};
 
 use crate::pairs::Pair;
 use crate::sorted;
@@ -35,7 +35,7 @@ pub fn summaries(
     rows: &[Build],
     pairs: &[Pair],
 ) -> Result<Sequence<BuildSummary>, NoMemory>
-    requires { RisesFrom number_of 0 rows.now }
+    requires { RisesFrom number_of_build 0 rows.now }
     ensures { IfOk result (λ found. found ≡ filter_map
         (λ p. option_map summary_of (find (λ b. b.number == p.second) rows.now)) pairs.now) }
 {

@@ -18,7 +18,7 @@ use Rattle.gate_rows.specs.Matches.{StandsFor}
 use Rattle.gate_found_rows.specs.Finds.{Stays}
 use Rattle.gate_found_rows.proofs.StayLemmas.{stays_then}
 use Rattle.gate_table_laws.specs.Held.{IsShownFor}
-use Rattle.gate_file_changes.specs.Making.{IsSettled}
+use Rattle.gate_file_changes.specs.Making.{IsUpAndCommitted}
 use Rattle.gate_migration.specs.Migrates.{Carries, HasNoneToMigrate}
 use Rattle.gate_migration.specs.Standing.{IsMigrated, IsStanding, fault_before, is_newly_taken}
 use Rattle.gate_migration.specs.Standing.{IsMigratedOf, IsStandingOf}
@@ -153,7 +153,7 @@ done_from (Err f) old mid new c x first is done = (is, stays_then old mid new fi
 
 -- what is committed is what is shown, so a crash leaves that
 pub settled_from : (r : Result Migrated OpenFault) (mid new : State) (c : Settings) (x : Content) (Recovers : Trees → Type 0)
-    → ((db : Trees) → IsTrue new.is_open → Recovers db → db ≡ new.committed.trees) → OnOk r (IsSettled new) → Carries mid new c x r
+    → ((db : Trees) → IsTrue new.is_open → Recovers db → db ≡ new.committed.trees) → OnOk r (IsUpAndCommitted new) → Carries mid new c x r
     → OnOk r ((db : Trees) → Recovers db → StandsFor db c (migrated_content c x))
 settled_from (Ok m) mid new c x Recovers recovered held done = λ db left.
     subst (λ trees. StandsFor trees c (migrated_content c x)) (sym (recovered db held.0 left ∙ ap (λ (d : Database). d.trees) held.1)) done.stands

@@ -13,7 +13,7 @@ ghost use Rattle.gate_found_rows.specs.Finds.{Stays};
 ghost use Rattle.gate_file_changes.specs.Applies.{LeavesOrStands};
 ghost use Rattle.gate_table_laws.specs.Held.{IsShownFor, queue_names};
 ghost use Rattle.gate_migration.specs.Upgrade.{StandsForFirst};
-ghost use Rattle.gate_file_changes.specs.Making.{IsSettled};
+ghost use Rattle.gate_file_changes.specs.Making.{IsUpAndCommitted};
 ghost use Rattle.gate_migration.specs.Migrates.{CanMigrate, Carries, HasNoneToMigrate, IsLeft};
 ghost use Rattle.gate_file_meta.specs.Opens.{IsMeta, with_meta};
 ghost use Rattle.gate_migration.specs.Standing.{IsMigrated, IsStanding, fault_before, is_newly_taken};
@@ -112,7 +112,7 @@ fn carry_out<S: Alter>(
         CanMigrate (state S.Store conn.old) config.now x →
         Carries (state S.Store conn.old) (state S.Store conn.new) config.now x result }
     ensures answer { MatchResult result (λ m. m ≡ Migrated.Done) (λ f. f ≡ OpenFault.Unavailable) }
-    ensures settled { HasCleanDisk (state S.Store conn.new) → OnOk result (IsSettled (state S.Store conn.new)) }
+    ensures settled { HasCleanDisk (state S.Store conn.new) → OnOk result (IsUpAndCommitted (state S.Store conn.new)) }
     ensures mode { OnOk result (conn.new.in_transaction ≡ false) }
     ensures crash { HasCleanDisk (state S.Store conn.new) → IsTrue (state S.Store conn.old).is_open → (x : Content) →
         CanMigrate (state S.Store conn.old) config.now x →

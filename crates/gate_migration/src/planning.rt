@@ -6,7 +6,7 @@ ghost use Rattle.gate_types.specs.Migrate.{plans_of_queue};
 ghost use Rattle.gate_types.specs.State.{State as GateState, Queue as GateQueue};
 ghost use Rattle.gate_types.specs.Tables.{change_row};
 ghost use Rattle.gate_schema.specs.Rows.{Stored};
-ghost use Rattle.gate_queue_queries.specs.First.{IsFirstOf, pair_shown};
+ghost use Rattle.gate_queue_queries.specs.First.{ShowsFirstIfOpen, pair_shown};
 ghost use Rattle.gate_found_rows.specs.Reads.{IsOnlyRead};
 ghost use Rattle.gate_migration.specs.Migrates.{TellsQueue, TellsState, plan_for, puts};
 
@@ -64,7 +64,7 @@ fn plan_for<S: Alter>(
     may_fail_fast: bool,
 ) -> Result<Plan, BookFault>
     ensures found { HasCleanDisk (state S.Store conn.new) → (b : Stored) (s : GateState) →
-        IsFirstOf (state S.Store conn.old) b → b.changes ≡ map (change_row s.ready) s.changes →
+        ShowsFirstIfOpen (state S.Store conn.old) b → b.changes ≡ map (change_row s.ready) s.changes →
         IfOk result (λ p. p ≡ plan_for config.now s may_fail_fast (serial, change)) }
     ensures only_reads { IsOnlyRead (state S.Store conn.old) (state S.Store conn.new) }
 {
@@ -84,7 +84,7 @@ fn plan_of<S: Alter>(
     may_fail_fast: bool,
 ) -> Result<Plan, BookFault>
     ensures found { HasCleanDisk (state S.Store conn.new) → (b : Stored) (s : GateState) →
-        IsFirstOf (state S.Store conn.old) b → b.changes ≡ map (change_row s.ready) s.changes → (pair : ℕ × ℕ) →
+        ShowsFirstIfOpen (state S.Store conn.old) b → b.changes ≡ map (change_row s.ready) s.changes → (pair : ℕ × ℕ) →
         row.now ≡ pair_shown pair.0 pair.1 →
         IfOk result (λ p. p ≡ plan_for config.now s may_fail_fast pair) }
     ensures only_reads { IsOnlyRead (state S.Store conn.old) (state S.Store conn.new) }
@@ -112,7 +112,7 @@ fn push_plans<S: Alter>(
     edits: &mut Vec<Edit>,
 ) -> Result<(), BookFault>
     ensures found { HasCleanDisk (state S.Store conn.new) → (b : Stored) (s : GateState) →
-        IsFirstOf (state S.Store conn.old) b → b.changes ≡ map (change_row s.ready) s.changes →
+        ShowsFirstIfOpen (state S.Store conn.old) b → b.changes ≡ map (change_row s.ready) s.changes →
         (pairs : List (ℕ × ℕ)) → rows.now ≡ map (λ (p : ℕ × ℕ). pair_shown p.0 p.1) pairs →
         OnOk result (edits.new.items ≡ edits.old.items ++ puts (map (plan_for config.now s may_fail_fast) pairs)) }
     ensures only_reads { IsOnlyRead (state S.Store conn.old) (state S.Store conn.new) }
@@ -133,7 +133,7 @@ fn push_queue<S: Alter>(
     edits: &mut Vec<Edit>,
 ) -> Result<(), BookFault>
     ensures found { HasCleanDisk (state S.Store conn.new) → (b : Stored) (s : GateState) →
-        IsFirstOf (state S.Store conn.old) b → b.changes ≡ map (change_row s.ready) s.changes → (q : GateQueue) →
+        ShowsFirstIfOpen (state S.Store conn.old) b → b.changes ≡ map (change_row s.ready) s.changes → (q : GateQueue) →
         q.name ≡ queue.now → TellsQueue b q →
         OnOk result (edits.new.items ≡ edits.old.items ++ puts (plans_of_queue config.now s q)) }
     ensures only_reads { IsOnlyRead (state S.Store conn.old) (state S.Store conn.new) }
@@ -151,7 +151,7 @@ pub(crate) fn first_plans<S: Alter>(
     config: &Config,
 ) -> Result<Vec<Edit>, BookFault>
     ensures found { HasCleanDisk (state S.Store conn.new) → (b : Stored) (s : GateState) →
-        IsFirstOf (state S.Store conn.old) b → TellsState b config.now s →
+        ShowsFirstIfOpen (state S.Store conn.old) b → TellsState b config.now s →
         IfOk result (λ edits. edits.items ≡ puts (flat_map (plans_of_queue config.now s) s.queues)) }
     ensures only_reads { IsOnlyRead (state S.Store conn.old) (state S.Store conn.new) }
 {

@@ -7,7 +7,7 @@ ghost use Rattle.gate_rows.specs.Writes.{LeavesNothing};
 ghost use Rattle.gate_schema.specs.Rows.{IsReady};
 ghost use Rattle.gate_schema.specs.Schema.{gate_schema};
 ghost use Rattle.gate_found_rows.specs.Finds.{Stays};
-ghost use Rattle.gate_file_changes.specs.Making.{IsFilled, IsInside, IsSettled, KeepsInside, Turns};
+ghost use Rattle.gate_file_changes.specs.Making.{IsFilled, IsInside, IsUpAndCommitted, KeepsInside, Turns};
 ghost use Rattle.gate_migration.specs.Upgrade.{CanPlan, CanUpgrade, HasJobTable, HasUpgraded, IsFirst, IsWidened};
 ghost use Rattle.gate_migration.specs.Upgrade.{stored_without_plans};
 
@@ -102,7 +102,7 @@ fn upgrade<S: Alter>(alloc: Global, conn: &mut Connection<S>, edits: &[Edit]) ->
         CanUpgrade (state S.Store conn.old) b edits.now t →
         OnOk result (((state S.Store conn.new).now.schema ≡ gate_schema) ×
         HasUpgraded (state S.Store conn.new).now.trees b edits.now t) }
-    ensures settled { HasCleanDisk (state S.Store conn.new) → OnOk result (IsSettled (state S.Store conn.new)) }
+    ensures settled { HasCleanDisk (state S.Store conn.new) → OnOk result (IsUpAndCommitted (state S.Store conn.new)) }
     ensures none { HasCleanDisk (state S.Store conn.new) → (b : _) (t : _) →
         CanUpgrade (state S.Store conn.old) b edits.now t →
         OnErr result (Stays (state S.Store conn.old) (state S.Store conn.new)) }
@@ -129,7 +129,7 @@ pub(crate) fn upgrade_if_open<S: Alter>(
         (IsTrue (state S.Store conn.old).is_open → CanUpgrade (state S.Store conn.old) b edits.now t) →
         OnOk result (((state S.Store conn.new).now.schema ≡ gate_schema) ×
         HasUpgraded (state S.Store conn.new).now.trees b edits.now t) }
-    ensures settled { HasCleanDisk (state S.Store conn.new) → OnOk result (IsSettled (state S.Store conn.new)) }
+    ensures settled { HasCleanDisk (state S.Store conn.new) → OnOk result (IsUpAndCommitted (state S.Store conn.new)) }
     ensures none { HasCleanDisk (state S.Store conn.new) → (b : _) (t : _) →
         (IsTrue (state S.Store conn.old).is_open → CanUpgrade (state S.Store conn.old) b edits.now t) →
         OnErr result (Stays (state S.Store conn.old) (state S.Store conn.new)) }

@@ -18,7 +18,7 @@ use Rattle.gate_types.specs.Sweep.{Judged, judge, judged_after, next_staying, ne
 use Rattle.gate_types.specs.Sweep.{without_runs}
 use Rattle.gate_types.specs.Rising.{RisesFrom}
 use Rattle.gate_queue_rules.specs.Settled.{verdicts}
-use Rattle.gate_queue.specs.Laws.{Scan, swept, without, one_out, OneSweepIsOneByOne}
+use Rattle.gate_queue.specs.Laws.{Scan, swept_at_once, one_taken_out, one_out, OneSweepIsOneByOne}
 use Rattle.gate_queue_rules.proofs.Ordered.{rises, ahead_rise}
 use Rattle.gate_queue_rules.proofs.Builds.{or_false}
 use Rattle.gate_laws.proofs.Alike.{verdict_alike}
@@ -224,13 +224,13 @@ judged_rise bs n staying (p ∷ ps) r = (r.0, judged_rise bs (suc p.item.serial)
 
 -- taking one out leaves the sweep as it is
 out_same : (bounds : Bounds) (q : Scan) (j : Judged) → RisesFrom place_serial 0 q.places → first_out (verdicts q.places q.builds) ≡ Some j →
-    (swept bounds (without bounds q j) ≡ swept bounds q) × (length (filter_map report_on (verdicts q.places q.builds)) ≡ suc (length (filter_map report_on (verdicts (without bounds q j).places (without bounds q j).builds))))
+    (swept_at_once bounds (one_taken_out bounds q j) ≡ swept_at_once bounds q) × (length (filter_map report_on (verdicts q.places q.builds)) ≡ suc (length (filter_map report_on (verdicts (one_taken_out bounds q j).places (one_taken_out bounds q j).builds))))
 out_same bounds q j r e =
     let js = verdicts q.places q.builds in
     let rest = left_of (is_one j) js in
     let qs = places_after q.builds [] q.places in
     let t = apart bounds 0 js j (judged_rise q.builds 0 [] qs (ahead_rise q.builds 0 [] q.places r)) e in
-    let next = without bounds q j in
+    let next = one_taken_out bounds q j in
     let left : verdicts next.places next.builds ≡ rest =
     ap (judged_after next.builds []) (places_left q.builds [] [] q.places (is_one j) (λ n h. h) t.only) ∙ verdicts_left q.builds [] qs (is_one j) t.only in
     let sweep_by : List Judged → Scan = λ ks. record {
@@ -271,7 +271,7 @@ stay_all : (ps : List Place) (leaves : ℕ → Bool) → ((n : ℕ) → leaves n
 stay_all [] leaves h = refl
 stay_all (p ∷ ps) leaves h = ap (λ t. cond (not t) (p ∷ stayers leaves ps) (stayers leaves ps)) (h p.item.serial) ∙ ap (λ l. p ∷ l) (stay_all ps leaves h)
 
-idle_same : (bounds : Bounds) (q : Scan) → first_out (verdicts q.places q.builds) ≡ None → swept bounds q ≡ q
+idle_same : (bounds : Bounds) (q : Scan) → first_out (verdicts q.places q.builds) ≡ None → swept_at_once bounds q ≡ q
 idle_same bounds q e =
     let js = verdicts q.places q.builds in
     let i = idle bounds js e in
@@ -282,24 +282,24 @@ idle_same bounds q e =
       reports = (ap (λ l. q.reports ++ l) i.reports ∙ append-nil q.reports) k;
     }
 
-outs : (bounds : Bounds) (l : List Place) (q : Scan) → RisesFrom place_serial 0 q.places → length (filter_map report_on (verdicts q.places q.builds)) ≤ length l → fold (λ t _. one_out bounds t) q l ≡ swept bounds q
+outs : (bounds : Bounds) (l : List Place) (q : Scan) → RisesFrom place_serial 0 q.places → length (filter_map report_on (verdicts q.places q.builds)) ≤ length l → fold (λ t _. one_out bounds t) q l ≡ swept_at_once bounds q
 outs bounds [] q r few = by_first (first_out (verdicts q.places q.builds)) refl
   where
-    by_first : (o : Option Judged) → first_out (verdicts q.places q.builds) ≡ o → q ≡ swept bounds q
+    by_first : (o : Option Judged) → first_out (verdicts q.places q.builds) ≡ o → q ≡ swept_at_once bounds q
     by_first None e = sym (idle_same bounds q e)
     by_first (Some j) e = let more = (out_same bounds q j r e).1 in absurd (omega arith)
 outs bounds (x ∷ l) q r few = by_first (λ t h k. outs bounds l t h k) (first_out (verdicts q.places q.builds)) refl
   where
-    by_first : ((t : Scan) → RisesFrom place_serial 0 t.places → length (filter_map report_on (verdicts t.places t.builds)) ≤ length l → fold (λ t _. one_out bounds t) t l ≡ swept bounds t) →
-        (o : Option Judged) → first_out (verdicts q.places q.builds) ≡ o → fold (λ t _. one_out bounds t) (one_out bounds q) l ≡ swept bounds q
+    by_first : ((t : Scan) → RisesFrom place_serial 0 t.places → length (filter_map report_on (verdicts t.places t.builds)) ≤ length l → fold (λ t _. one_out bounds t) t l ≡ swept_at_once bounds t) →
+        (o : Option Judged) → first_out (verdicts q.places q.builds) ≡ o → fold (λ t _. one_out bounds t) (one_out bounds q) l ≡ swept_at_once bounds q
     by_first ih None e =
         let none : length (filter_map report_on (verdicts q.places q.builds)) ≡ 0 = ap length (idle bounds (verdicts q.places q.builds) e).reports in
-        ap (λ (o : Option Judged). fold (λ t _. one_out bounds t) (option_map_or (without bounds q) o q) l) e ∙ ih q r (omega arith)
+        ap (λ (o : Option Judged). fold (λ t _. one_out bounds t) (option_map_or (one_taken_out bounds q) o q) l) e ∙ ih q r (omega arith)
     by_first ih (Some j) e =
         let same = out_same bounds q j r e in
-        let more : length (filter_map report_on (verdicts q.places q.builds)) ≡ suc (length (filter_map report_on (verdicts (without bounds q j).places (without bounds q j).builds))) = same.1 in
-        ap (λ (o : Option Judged). fold (λ t _. one_out bounds t) (option_map_or (without bounds q) o q) l) e
-        ∙ ih (without bounds q j) (rise_stayers 0 q.places (is_one j) r) (omega arith)
+        let more : length (filter_map report_on (verdicts q.places q.builds)) ≡ suc (length (filter_map report_on (verdicts (one_taken_out bounds q j).places (one_taken_out bounds q j).builds))) = same.1 in
+        ap (λ (o : Option Judged). fold (λ t _. one_out bounds t) (option_map_or (one_taken_out bounds q) o q) l) e
+        ∙ ih (one_taken_out bounds q j) (rise_stayers 0 q.places (is_one j) r) (omega arith)
         ∙ same.0
 
 reports-le : (js : List Judged) → length (filter_map report_on js) ≤ length js

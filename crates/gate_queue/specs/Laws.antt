@@ -44,8 +44,8 @@ pub record Scan : Type 0 where
   pub reports : List Report
 
 -- all items that go are taken out by one look at the queue
-abbrev pub swept : Bounds → Scan → Scan
-swept bounds q = record {
+abbrev pub swept_at_once : Bounds → Scan → Scan
+swept_at_once bounds q = record {
   window = fold (next_window bounds) q.window (verdicts q.places q.builds);
   places = staying_places (verdicts q.places q.builds) q.places;
   builds = swept_builds (verdicts q.places q.builds) q.builds;
@@ -53,8 +53,8 @@ swept bounds q = record {
 }
 
 -- one item is taken out
-abbrev pub without : Bounds → Scan → Judged → Scan
-without bounds q j = record {
+abbrev pub one_taken_out : Bounds → Scan → Judged → Scan
+one_taken_out bounds q j = record {
   window = next_window bounds q.window j;
   places = staying_places (j ∷ []) q.places;
   builds = swept_builds (j ∷ []) q.builds;
@@ -63,7 +63,7 @@ without bounds q j = record {
 
 -- the first item that goes is taken out, by a new look at the queue
 abbrev pub one_out : Bounds → Scan → Scan
-one_out bounds q = option_map_or (without bounds q) (find (λ j. is_some j.verdict) (verdicts q.places q.builds)) q
+one_out bounds q = option_map_or (one_taken_out bounds q) (find (λ j. is_some j.verdict) (verdicts q.places q.builds)) q
 
 -- one after another; as many times as there are items are enough
 abbrev pub all_out : Bounds → Scan → Scan
@@ -72,4 +72,4 @@ all_out bounds q = fold (λ t _. one_out bounds t) q q.places
 -- one sweep is the same as removal one by one with a new look between
 abbrev pub OneSweepIsOneByOne : Type 0
 OneSweepIsOneByOne = (bounds : Bounds) (q : Scan) → IsStrictlyIncreasing (map (λ p. p.item.serial) q.places) →
-    all_out bounds q ≡ swept bounds q
+    all_out bounds q ≡ swept_at_once bounds q

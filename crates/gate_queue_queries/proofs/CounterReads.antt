@@ -21,7 +21,7 @@ use Rattle.gate_schema.specs.Rows.{Stored, counter_columns}
 use Rattle.gate_schema.proofs.QueryLemmas.{kept_is, over_table, passes, of_columns, shown_columns}
 use Rattle.gate_schema.proofs.Statements.{Asks, no_limit}
 use Rattle.gate_found_rows.specs.Finds.{Finds}
-use Rattle.gate_found_rows.specs.Reads.{IsShown}
+use Rattle.gate_found_rows.specs.Reads.{IsStoredIn}
 use Rattle.gate_found_rows.proofs.ReadLemmas.{answers}
 
 abbrev pub counters_sql : List ℕ
@@ -68,7 +68,7 @@ counters_rise d = (
 )
 
 -- the rows of the counters, by name
-pub counters_found : (s : State) (b : Stored) (rows : List Row) → IsShown s b → Finds counters_sql [] s.now rows → rows ≡ counter_columns b.counters
+pub counters_found : (s : State) (b : Stored) (rows : List Row) → IsStoredIn s b → Finds counters_sql [] s.now rows → rows ≡ counter_columns b.counters
 counters_found s b rows shown finds =
     let a = answers s counters_sql counters_query counters_names [] rows counters_is shown.schema_is finds in
     let db = overlay s.now.trees [] in

@@ -26,7 +26,7 @@ use Rattle.gate_schema.proofs.QueryLemmas.{passes}
 use Rattle.gate_schema.proofs.Statements.{key_is, no_limit}
 use Rattle.gate_schema.proofs.ValueLemmas.{equal_texts, value_cmp-pos}
 use Rattle.gate_found_rows.specs.Finds.{Finds}
-use Rattle.gate_found_rows.specs.Reads.{IsShown}
+use Rattle.gate_found_rows.specs.Reads.{IsStoredIn}
 use Rattle.gate_queue_queries.proofs.CountReads.{counted, counts}
 use Rattle.gate_found_rows.specs.Shown.{number_shown}
 use Rattle.gate_found_rows.proofs.GreatestLemmas.{ShowGreatest}
@@ -45,7 +45,7 @@ use Rattle.gate_types.specs.Limits.{most_window}
 -- ---- the window
 
 -- the windows of the queues of a name, in the order in which they were written
-pub window_found : (s : State) (b : Stored) (name : List ℕ) (rows : List Row) → IsShown s b → Finds window_sql (Words name ∷ []) s.now rows
+pub window_found : (s : State) (b : Stored) (name : List ℕ) (rows : List Row) → IsStoredIn s b → Finds window_sql (Words name ∷ []) s.now rows
     → rows ≡ map number_shown (map (λ (q : QueueRow). q.window) (filter (λ q. same_name q.name name) b.queues))
 window_found s b name rows shows finds =
     let params = Words name ∷ [] in
@@ -65,7 +65,7 @@ windows_in_form name qs all =
 -- ---- the items
 
 -- how many there are
-pub count_found : (s : State) (b : Stored) (name : List ℕ) (rows : List Row) → IsShown s b → Finds count_sql (Words name ∷ []) s.now rows
+pub count_found : (s : State) (b : Stored) (name : List ℕ) (rows : List Row) → IsStoredIn s b → Finds count_sql (Words name ∷ []) s.now rows
     → rows ≡ counted (length (items_of name b.items)) ∷ []
 count_found s b name rows shows finds =
     let params = Words name ∷ [] in
@@ -80,7 +80,7 @@ count_found s b name rows shows finds =
 -- ---- the last landing, and the last before a serial
 
 -- the place of the last landing
-pub landing_found : (s : State) (b : Stored) (name : List ℕ) (rows : List Row) → IsShown s b → Finds landing_sql (Words name ∷ []) s.now rows
+pub landing_found : (s : State) (b : Stored) (name : List ℕ) (rows : List Row) → IsStoredIn s b → Finds landing_sql (Words name ∷ []) s.now rows
     → ShowGreatest (map (λ (r : LandingRow). r.place) (landings_of name b.landings)) rows
 landing_found s b name rows shows finds =
     let params = Words name ∷ [] in
@@ -105,7 +105,7 @@ places_before name serial ls =
     ∙ ap (map (λ (r : LandingRow). r.place)) (sym (filter_in (λ (l : QueueLanding). same_name l.queue name) (λ (r : LandingRow). nat_lt r.landing.serial serial) (λ (l : QueueLanding). l.row) ls))
 
 -- the place of the last landing before a serial
-pub before_found : (s : State) (b : Stored) (name : List ℕ) (serial : ℕ) (rows : List Row) → IsShown s b → Finds before_sql (Words name ∷ Int (pos serial) ∷ []) s.now rows
+pub before_found : (s : State) (b : Stored) (name : List ℕ) (serial : ℕ) (rows : List Row) → IsStoredIn s b → Finds before_sql (Words name ∷ Int (pos serial) ∷ []) s.now rows
     → ShowGreatest (map (λ (r : LandingRow). r.place) (filter (λ (r : LandingRow). nat_lt r.landing.serial serial) (landings_of name b.landings))) rows
 before_found s b name serial rows shows finds =
     let params = Words name ∷ Int (pos serial) ∷ [] in
@@ -121,7 +121,7 @@ before_found s b name serial rows shows finds =
 -- ---- the last report
 
 -- its place
-pub report_found : (s : State) (b : Stored) (name : List ℕ) (rows : List Row) → IsShown s b → Finds report_sql (Words name ∷ []) s.now rows
+pub report_found : (s : State) (b : Stored) (name : List ℕ) (rows : List Row) → IsStoredIn s b → Finds report_sql (Words name ∷ []) s.now rows
     → ShowGreatest (map (λ (r : ReportRow). r.place) (reports_of name b.reports)) rows
 report_found s b name rows shows finds =
     let params = Words name ∷ [] in

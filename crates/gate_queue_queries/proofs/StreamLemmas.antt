@@ -24,7 +24,7 @@ use Rattle.gate_types.specs.declared.tap.Tap.{Tap}
 use Rattle.gate_found_rows.specs.Finds.{Finds, IsPlainQuery, OnlyReads, Stays}
 use Rattle.gate_found_rows.specs.Reads.{IsOnlyRead}
 use Rattle.gate_found_rows.proofs.StayLemmas.{shown_finds}
-use Rattle.gate_queue_queries.specs.Streamed.{ReadsOn, Streams, body, lines}
+use Rattle.gate_queue_queries.specs.Streamed.{ReadsOn, StreamsRows, body, lines_of_records}
 
 -- ---- rows that are given
 
@@ -70,7 +70,7 @@ StandsAt g sql params shown h done rest None = rest ≡ []
 
 -- where a record is read, it is the next
 pub reads_next : {S X : Type 0} (g : Ghosts S) (sql : List ℕ) (params : Row) (shown : X → Row) (first : State) (old new : Held S) (done rest : List X) (next : Option X)
-    → Streams sql params first shown (done ++ rest) → (state g old).now ≡ first.now → IsUnchanged (state g old) (state g new)
+    → StreamsRows sql params first shown (done ++ rest) → (state g old).now ≡ first.now → IsUnchanged (state g old) (state g new)
     → ReadsOn g sql params shown old new (map shown done) next → StandsAt g sql params shown new done rest next
 reads_next g sql params shown first old new done rest None streams was same reads =
     none_is shown done rest (streams.found (map shown done) (shown_finds sql params first (state g old) (state g new) (map shown done) was reads))
@@ -96,7 +96,7 @@ plain_of (Ok c) q names h = (h.1, h.2)
 plain_of (Err e) q names h = absurd h
 
 -- what it streams, it streams of tables that are the same
-pub streams_at : {X : Type 0} (sql : List ℕ) (params : Row) (shown : X → Row) (xs : List X) (first start : State) → start.now ≡ first.now → Streams sql params first shown xs → Streams sql params start shown xs
+pub streams_at : {X : Type 0} (sql : List ℕ) (params : Row) (shown : X → Row) (xs : List X) (first start : State) → start.now ≡ first.now → StreamsRows sql params first shown xs → StreamsRows sql params start shown xs
 streams_at sql params shown xs first start is it = record {
   query = it.query;
   names = it.names;
@@ -113,20 +113,20 @@ read_by sql old new reads clean stays crash = record { clean = clean; stays = λ
 -- ---- the text, cut at a record
 
 -- the lines of more records
-pub lines_more : {X : Type 0} (line : ℕ → X → List ℕ) (n : ℕ) (xs ys : List X) → lines line n (xs ++ ys) ≡ lines line n xs ++ lines line (n + length xs) ys
-lines_more line n [] ys = let e : n ≡ n + 0 = omega arith in ap (λ m. lines line m ys) e
+pub lines_more : {X : Type 0} (line : ℕ → X → List ℕ) (n : ℕ) (xs ys : List X) → lines_of_records line n (xs ++ ys) ≡ lines_of_records line n xs ++ lines_of_records line (n + length xs) ys
+lines_more line n [] ys = let e : n ≡ n + 0 = omega arith in ap (λ m. lines_of_records line m ys) e
 lines_more line n (x ∷ xs) ys =
     let e : n + 1 + length xs ≡ n + length (x ∷ xs) = omega arith in
-    ap (λ l. line n x ++ l) (lines_more line (n + 1) xs ys ∙ ap (λ m. lines line (n + 1) xs ++ lines line m ys) e)
-    ∙ sym (append_assoc (line n x) (lines line (n + 1) xs) _)
+    ap (λ l. line n x ++ l) (lines_more line (n + 1) xs ys ∙ ap (λ m. lines_of_records line (n + 1) xs ++ lines_of_records line m ys) e)
+    ∙ sym (append_assoc (line n x) (lines_of_records line (n + 1) xs) _)
 
 -- with the line of a record more
 text_more : {X : Type 0} (head : List ℕ) (line : ℕ → X → List ℕ) (done : List X) (x : X) (count : ℕ) → length done ≡ count →
-    (head ++ lines line 0 done) ++ line count x ≡ head ++ lines line 0 (done ++ x ∷ [])
+    (head ++ lines_of_records line 0 done) ++ line count x ≡ head ++ lines_of_records line 0 (done ++ x ∷ [])
 text_more head line done x count counted =
     let at : count ≡ 0 + length done = omega (arith, counted) in
-    append_assoc head (lines line 0 done) (line count x)
-    ∙ ap (λ l. head ++ l) (ap (λ n. lines line 0 done ++ line n x) at ∙ ap (λ l. lines line 0 done ++ l) (sym (append-nil (line (0 + length done) x))) ∙ sym (lines_more line 0 done (x ∷ [])))
+    append_assoc head (lines_of_records line 0 done) (line count x)
+    ∙ ap (λ l. head ++ l) (ap (λ n. lines_of_records line 0 done ++ line n x) at ∙ ap (λ l. lines_of_records line 0 done ++ l) (sym (append-nil (line (0 + length done) x))) ∙ sym (lines_more line 0 done (x ∷ [])))
 
 -- of those that fit, what is left behind the first of them
 fits : {X : Type 0} (most : ℕ) (done rest : List X) → length done ≤ most → take most (done ++ rest) ≡ done ++ take (most - length done) rest
@@ -136,9 +136,9 @@ fits most done rest low =
 
 -- the text behind the first of them
 body_cut : {X : Type 0} (head : List ℕ) (line : ℕ → X → List ℕ) (most : ℕ) (done rest : List X) → length done ≤ most →
-    body head line most (done ++ rest) ≡ (head ++ lines line 0 done) ++ lines line (0 + length done) (take (most - length done) rest)
+    body head line most (done ++ rest) ≡ (head ++ lines_of_records line 0 done) ++ lines_of_records line (0 + length done) (take (most - length done) rest)
 body_cut head line most done rest low =
-    ap (λ l. head ++ lines line 0 l) (fits most done rest low) ∙ ap (λ l. head ++ l) (lines_more line 0 done _) ∙ sym (append_assoc head (lines line 0 done) _)
+    ap (λ l. head ++ lines_of_records line 0 l) (fits most done rest low) ∙ ap (λ l. head ++ l) (lines_more line 0 done _) ∙ sym (append_assoc head (lines_of_records line 0 done) _)
 
 -- ---- what a writer took
 
@@ -184,12 +184,12 @@ pub record IsWriting {S W X : Type 0} (g : Ghosts S) (sql : List ℕ) (params : 
   pub rest : List X
   pub split : xs ≡ done ++ rest
   pub counted : length done ≡ count
-  pub taken : Took held old now (head ++ lines line 0 done)
+  pub taken : Took held old now (head ++ lines_of_records line 0 done)
   pub stands : StandsAt g sql params shown h done rest next
 
 module _ {S W X : Type 0} (g : Ghosts S) (sql : List ℕ) (params : Row) (shown : X → Row) (line : ℕ → X → List ℕ) (head : List ℕ) (held : W → Option (List ℕ)) (old : Tap W) where
   -- the first record is read, and the head is written
-  pub begins_writing : (new : Tap W) (was now : Held S) (xs : List X) (next : Option X) → Streams sql params (state g was) shown xs
+  pub begins_writing : (new : Tap W) (was now : Held S) (xs : List X) (next : Option X) → StreamsRows sql params (state g was) shown xs
       → IsUnchanged (state g was) (state g now) → ReadsOn g sql params shown was now [] next → Took held old new head → IsWriting g sql params shown line head held old new now 0 next xs
   begins_writing new was now xs next streams same reads took = record {
     done = [];
@@ -201,7 +201,7 @@ module _ {S W X : Type 0} (g : Ghosts S) (sql : List ℕ) (params : Row) (shown 
   }
 
   -- a line is written, and the next record is read
-  pub writes_on : (mid new : Tap W) (first : State) (was now : Held S) (count : ℕ) (x : X) (next : Option X) (xs : List X) → Streams sql params first shown xs
+  pub writes_on : (mid new : Tap W) (first : State) (was now : Held S) (count : ℕ) (x : X) (next : Option X) (xs : List X) → StreamsRows sql params first shown xs
       → IsUnchanged first (state g was) → IsUnchanged (state g was) (state g now) → IsWriting g sql params shown line head held old mid was count (Some x) xs → Took held mid new (line count x)
       → ((given : List Row) → HasGiven g sql params was given → ReadsOn g sql params shown was now given next) → IsWriting g sql params shown line head held old new now (count + 1) next xs
   writes_on mid new first was now count x next xs streams before same it took reads =
@@ -214,15 +214,15 @@ module _ {S W X : Type 0} (g : Ghosts S) (sql : List ℕ) (params : Row) (shown 
         split = split;
         counted = length-append it.done (x ∷ []) ∙ ap (λ n. n + 1) it.counted;
         taken = subst (Took held old new) (text_more head line it.done x count it.counted) (Appends-trans _ _ _ _ _ it.taken took);
-        stands = reads_next g sql params shown first was now done more next (subst (Streams sql params first shown) split streams) before.0.now_is same (reads _ it.stands.2);
+        stands = reads_next g sql params shown first was now done more next (subst (StreamsRows sql params first shown) split streams) before.0.now_is same (reads _ it.stands.2);
       }
 
   -- the text with a record to come, cut behind its line
   text_at : (most : ℕ) (done : List X) (x : X) (more : List X) (count : ℕ) (xs : List X) → count < most → length done ≡ count → xs ≡ done ++ x ∷ more
-      → ((head ++ lines line 0 done) ++ line count x) ++ lines line (0 + length (done ++ x ∷ [])) (take (most - length (done ++ x ∷ [])) more) ≡ body head line most xs
+      → ((head ++ lines_of_records line 0 done) ++ line count x) ++ lines_of_records line (0 + length (done ++ x ∷ [])) (take (most - length (done ++ x ∷ [])) more) ≡ body head line most xs
   text_at most done x more count xs low counted split =
       let within : length (done ++ x ∷ []) ≤ most = omega (arith, low, counted, length-append done (x ∷ [])) in
-      ap (λ l. l ++ lines line (0 + length (done ++ x ∷ [])) (take (most - length (done ++ x ∷ [])) more)) (text_more head line done x count counted)
+      ap (λ l. l ++ lines_of_records line (0 + length (done ++ x ∷ [])) (take (most - length (done ++ x ∷ [])) more)) (text_more head line done x count counted)
       ∙ sym (body_cut head line most (done ++ x ∷ []) more within) ∙ ap (body head line most) (append_assoc done (x ∷ []) more ∙ sym split)
 
   -- so it is where it stops in a line
@@ -230,7 +230,7 @@ module _ {S W X : Type 0} (g : Ghosts S) (sql : List ℕ) (params : Row) (shown 
       → WritesSome (held (inside mid)) (held (inside new)) (line count x) → WritesSome (held (inside old)) (held (inside new)) (body head line most xs)
   cut_in_line most mid new now count x xs low it cut =
       subst (WritesSome (held (inside old)) (held (inside new))) (text_at most it.done x it.stands.0 count xs low it.counted (it.split ∙ ap (λ l. it.done ++ l) it.stands.1))
-      (sooner_some _ _ _ _ (later_some _ _ _ (head ++ lines line 0 it.done) (line count x) it.taken cut))
+      (sooner_some _ _ _ _ (later_some _ _ _ (head ++ lines_of_records line 0 it.done) (line count x) it.taken cut))
 
   -- or behind it
   pub stops_behind : (most : ℕ) (mid new : Tap W) (now : Held S) (count : ℕ) (x : X) (xs : List X) → count < most → IsWriting g sql params shown line head held old mid now count (Some x) xs
@@ -243,7 +243,7 @@ module _ {S W X : Type 0} (g : Ghosts S) (sql : List ℕ) (params : Row) (shown 
   pub ends_with : (most : ℕ) (new : Tap W) (now : Held S) (count : ℕ) (next : Option X) (xs : List X) (it : IsWriting g sql params shown line head held old new now count next xs) → take most xs ≡ it.done
       → Took held old new (body head line most xs) × (count ≡ length (take most xs))
   ends_with most new now count next xs it all =
-      (subst (Took held old new) (ap (λ l. head ++ lines line 0 l) (sym all)) it.taken, sym it.counted ∙ ap length (sym all))
+      (subst (Took held old new) (ap (λ l. head ++ lines_of_records line 0 l) (sym all)) it.taken, sym it.counted ∙ ap length (sym all))
 
   pub ends_none : (most : ℕ) (new : Tap W) (now : Held S) (count : ℕ) (xs : List X) → count ≤ most → IsWriting g sql params shown line head held old new now count None xs
       → Took held old new (body head line most xs) × (count ≡ length (take most xs))

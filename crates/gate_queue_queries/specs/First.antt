@@ -24,8 +24,8 @@ pub record ShowsFirst (s : State) (b : Stored) : Type 0 where
   pub landing : IsListed landing_columns (s.now.trees 14) b.landings
 
 -- while the connection answers at all, it shows these
-abbrev pub IsFirstOf : State → Stored → Type 0
-IsFirstOf s b = IsTrue s.is_open → ShowsFirst s b
+abbrev pub ShowsFirstIfOpen : State → Stored → Type 0
+ShowsFirstIfOpen s b = IsTrue s.is_open → ShowsFirst s b
 
 -- two numbers of a row
 abbrev pub pair_shown : ℕ → ℕ → Row

@@ -12,7 +12,7 @@ use Rattle.gate_types.specs.History.{report_row}
 use Rattle.gate_types.specs.Tap.{has_failed, Took, TookFront}
 use Rattle.gate_types.specs.declared.records.Report.{Report}
 use Rattle.gate_types.specs.declared.tap.Tap.{Tap}
-use Rattle.gate_book_trait.specs.Writes.{StopsBy}
+use Rattle.gate_book_trait.specs.Writes.{StopsWriterBy}
 use Rattle.gate_book_trait.specs.declared.fault.HistoryFault.{HistoryFault}
 use Rattle.gate_book_trait.specs.declared.fault.HistoryFault.TheVariants as fault
 use Rattle.gate_found_rows.specs.Finds.{Finds, IsPlainQuery}
@@ -25,7 +25,8 @@ ReadsOn g sql params shown old new given (Some x) =
 ReadsOn g sql params shown old new given None = Shown sql params (state g old) (state g new) given
 
 -- of the tables as they are, the text is a plain query, and its rows show these records
-pub record Streams {X : Type 0} (sql : List ℕ) (params : Row) (s : State) (shown : X → Row) (xs : List X) : Type 0 where
+pub record StreamsRows {X : Type 0} (sql : List ℕ) (params : Row) (s : State) (shown : X → Row) (xs : List X) :
+    Type 0 where
   pub query : Query
   pub names : List (List ℕ)
   pub plain : IsPlainQuery (understood s.now.schema sql) query names
@@ -33,13 +34,13 @@ pub record Streams {X : Type 0} (sql : List ℕ) (params : Row) (s : State) (sho
   pub found : (rows : List Row) → Finds sql params s.now rows → rows ≡ map shown xs
 
 -- the lines of records, the first of which is the nth
-abbrev pub lines : {X : Type 0} → (ℕ → X → List ℕ) → ℕ → List X → List ℕ
-lines line n [] = []
-lines line n (x ∷ xs) = line n x ++ lines line (n + 1) xs
+abbrev pub lines_of_records : {X : Type 0} → (ℕ → X → List ℕ) → ℕ → List X → List ℕ
+lines_of_records line n [] = []
+lines_of_records line n (x ∷ xs) = line n x ++ lines_of_records line (n + 1) xs
 
 -- a head, and the lines of at most so many records behind it
 abbrev pub body : {X : Type 0} → List ℕ → (ℕ → X → List ℕ) → ℕ → List X → List ℕ
-body head line most xs = head ++ lines line 0 (take most xs)
+body head line most xs = head ++ lines_of_records line 0 (take most xs)
 
 -- ---- lines of reports
 
@@ -48,22 +49,22 @@ abbrev pub line_from : ℕ → ℕ → Report → List ℕ
 line_from first n r = report_row (first + n, r)
 
 -- why lines were not written whole: the first row could not be read, or a beginning of any longer text was written
-abbrev pub CutsLines : {W : Type 0} → (W → Option (List ℕ)) → Tap W → Tap W → List ℕ → HistoryFault → Type 0
-CutsLines held old new text fault.NoQueue = ⊥
-CutsLines held old new text fault.Unavailable = ⊤
-CutsLines held old new text _ = (rest : List ℕ) → 0 < length rest → TookFront held old new (text ++ rest)
+abbrev pub CutsReportLines : {W : Type 0} → (W → Option (List ℕ)) → Tap W → Tap W → List ℕ → HistoryFault → Type 0
+CutsReportLines held old new text fault.NoQueue = ⊥
+CutsReportLines held old new text fault.Unavailable = ⊤
+CutsReportLines held old new text _ = (rest : List ℕ) → 0 < length rest → TookFront held old new (text ++ rest)
 
 -- a head and the lines of at most so many reports are written, and how many these are is told; or why not
-abbrev pub WritesLines : {W : Type 0} → (W → Option (List ℕ)) → Tap W → Tap W → List ℕ → ℕ → ℕ → List Report →
+abbrev pub WritesReportLines : {W : Type 0} → (W → Option (List ℕ)) → Tap W → Tap W → List ℕ → ℕ → ℕ → List Report →
     Result ℕ HistoryFault → Type 0
-WritesLines held old new head first most rs result =
+WritesReportLines held old new head first most rs result =
     MatchResult result
     (λ n. Took held old new (body head (line_from first) most rs) × (n ≡ length (take most rs)))
-    (CutsLines held old new (body head (line_from first) most rs))
+    (CutsReportLines held old new (body head (line_from first) most rs))
 
 -- the writer has not failed where they are written, or is left by a fault so
-abbrev pub StopsLines : {W : Type 0} → Tap W → Tap W → Result ℕ HistoryFault → Type 0
-StopsLines old new result = MatchResult result (λ _. has_failed new ≡ false) (StopsBy old new)
+abbrev pub StopsReports : {W : Type 0} → Tap W → Tap W → Result ℕ HistoryFault → Type 0
+StopsReports old new result = MatchResult result (λ _. has_failed new ≡ false) (StopsWriterBy old new)
 
 -- a call that wrote, or was to write, found the connection open
 abbrev pub OpenedHistory : {X : Type 0} → State → State → Result X HistoryFault → Type 0

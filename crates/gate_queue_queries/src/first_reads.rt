@@ -6,7 +6,7 @@ ghost use Rattle.gate_types.specs.declared.records.Item.{Item};
 ghost use Rattle.gate_types.specs.declared.records.Landing.{Landing};
 ghost use Rattle.gate_rows.specs.Matches.{items_of};
 ghost use Rattle.gate_schema.specs.Rows.{Stored};
-ghost use Rattle.gate_queue_queries.specs.First.{HoldsLandings, IsFirstOf, IsProjectOf, pair_shown};
+ghost use Rattle.gate_queue_queries.specs.First.{HoldsLandings, ShowsFirstIfOpen, IsProjectOf, pair_shown};
 ghost use Rattle.gate_found_rows.specs.Reads.{IsOnlyRead};
 
 use gate_book_trait::BookFault;
@@ -19,7 +19,7 @@ use sqlite::{Alter, Connection, Row};
 
 /// The serials of the items of a queue, front to back, each with its change.
 pub fn item_pairs<S: Alter>(conn: &mut Connection<S>, queue: &Name) -> Result<Vec<Row>, BookFault>
-    ensures found { HasCleanDisk (state S.Store conn.new) → (b : Stored) → IsFirstOf (state S.Store conn.old) b →
+    ensures found { HasCleanDisk (state S.Store conn.new) → (b : Stored) → ShowsFirstIfOpen (state S.Store conn.old) b →
         IfOk result (λ rows. rows.items
         ≡ map (λ (i : Item). pair_shown i.serial i.change) (items_of queue.now b.items)) }
     ensures only_reads { IsOnlyRead (state S.Store conn.old) (state S.Store conn.new) }
@@ -36,7 +36,7 @@ pub fn landing_pairs<S: Alter>(
     conn: &mut Connection<S>,
     queue: &Name,
 ) -> Result<Vec<Row>, BookFault>
-    ensures found { HasCleanDisk (state S.Store conn.new) → (b : Stored) → IsFirstOf (state S.Store conn.old) b →
+    ensures found { HasCleanDisk (state S.Store conn.new) → (b : Stored) → ShowsFirstIfOpen (state S.Store conn.old) b →
         (ls : List Landing) → HoldsLandings b queue.now ls →
         IfOk result (λ rows. rows.items ≡ map (λ (l : Landing). pair_shown l.serial l.change) ls) }
     ensures only_reads { IsOnlyRead (state S.Store conn.old) (state S.Store conn.new) }
@@ -53,7 +53,7 @@ pub fn project_name<S: Alter>(
     conn: &mut Connection<S>,
     number: ChangeNo,
 ) -> Result<PathName, BookFault>
-    ensures found { HasCleanDisk (state S.Store conn.new) → (b : Stored) → IsFirstOf (state S.Store conn.old) b →
+    ensures found { HasCleanDisk (state S.Store conn.new) → (b : Stored) → ShowsFirstIfOpen (state S.Store conn.old) b →
         IfOk result (IsProjectOf b.changes number) }
     ensures only_reads { IsOnlyRead (state S.Store conn.old) (state S.Store conn.new) }
 {

@@ -8,11 +8,12 @@ ghost use Rattle.sqlite.specs.Values.{bound};
 ghost use Rattle.gate_types.specs.History.{report_row};
 ghost use Rattle.gate_types.specs.Tap.{has_failed};
 ghost use Rattle.gate_types.specs.declared.records.Report.{Report as Told};
-ghost use Rattle.gate_book_trait.specs.Text.{first_line, last_line};
-ghost use Rattle.gate_book_trait.specs.Writes.{Stops};
+ghost use Rattle.gate_book_trait.specs.Text.{first_line, closing_line};
+ghost use Rattle.gate_book_trait.specs.Writes.{StopsHistoryWriter};
 ghost use Rattle.gate_found_rows.specs.Finds.{OnlyReads, Stays};
-ghost use Rattle.gate_queue_queries.specs.History.{IsSettled, WritesPart, report_shown, WritesWhole};
-ghost use Rattle.gate_queue_queries.specs.Streamed.{OpenedHistory, ReadsOn, StopsLines, Streams, WritesLines};
+ghost use Rattle.gate_queue_queries.specs.History.{ShowsCommitted, WritesHistoryPart, report_shown, WritesWhole};
+ghost use Rattle.gate_queue_queries.specs.Streamed.{OpenedHistory, ReadsOn, StopsReports, StreamsRows};
+ghost use Rattle.gate_queue_queries.specs.Streamed.{WritesReportLines};
 
 use gate_book_trait::{BookFault, HistoryFault, history_end, history_head, report_line};
 use gate_found_rows::columns::{change_in, revision_in, serial_in};
@@ -46,7 +47,7 @@ fn next_report<S: Alter>(rows: &mut Rows<'_, S>) -> Result<Option<Report>, BookF
         IfOk result (ReadsOn S.Store sql params report_shown rows.old.conn.now rows.new.conn.now given) }
     ensures same { HasCleanDisk (state S.Store rows.new.conn.now) →
         OnOk result (IsUnchanged (state S.Store rows.old.conn.now) (state S.Store rows.new.conn.now)) }
-    ensures stays { HasCleanDisk (state S.Store rows.new.conn.now) → IsSettled (state S.Store rows.old.conn.now) →
+    ensures stays { HasCleanDisk (state S.Store rows.new.conn.now) → ShowsCommitted (state S.Store rows.old.conn.now) →
         Stays (state S.Store rows.old.conn.now) (state S.Store rows.new.conn.now) }
     ensures crash { Survives (state S.Store rows.old.conn.now) (state S.Store rows.new.conn.now) (λ _. ⊥) }
 {
@@ -62,7 +63,7 @@ fn next_report<S: Alter>(rows: &mut Rows<'_, S>) -> Result<Option<Report>, BookF
 /// Writes a text; `Write` where the writer fails.
 fn write_text<W: Write>(text: &[u8], w: &mut Tap<W>) -> Result<(), HistoryFault>
     requires { has_failed w.old ≡ false }
-    ensures { WritesPart W.contents w.old w.new text.now result }
+    ensures { WritesHistoryPart W.contents w.old w.new text.now result }
 {
     match w.write_all(text) {
         Ok(()) => Ok(()),
@@ -79,7 +80,7 @@ fn write_head<W: Write>(
 ) -> Result<(), HistoryFault>
     requires { has_failed w.old ≡ false }
     ensures taken { WritesWhole W.contents w.old w.new (front.now ++ first_line queue.now) result }
-    ensures stops { Stops w.old w.new result }
+    ensures stops { StopsHistoryWriter w.old w.new result }
 {
     let head = match history_head(alloc, queue) {
         Ok(head) => head,
@@ -97,7 +98,7 @@ fn write_report<W: Write>(
     w: &mut Tap<W>,
 ) -> Result<(), HistoryFault>
     requires { has_failed w.old ≡ false }
-    ensures { WritesPart W.contents w.old w.new (report_row (place, report.now)) result }
+    ensures { WritesHistoryPart W.contents w.old w.new (report_row (place, report.now)) result }
 {
     match report_line(alloc, place, report) {
         Ok(line) => write_text(line.as_bytes(), w),
@@ -122,10 +123,10 @@ fn write_lines<S: Alter, W: Write>(
     ensures same_reference { rows.new.conn.ghost_name ≡ rows.old.conn.ghost_name }
     ensures found { HasCleanDisk (state S.Store rows.new.conn.now) → (sql : List ℕ) → (params : Columns) →
         HasGiven S.Store sql params rows.old.conn.now [] → (rs : List Told) →
-        Streams sql params (state S.Store rows.old.conn.now) report_shown rs →
-        WritesLines W.contents w.old w.new (front.now ++ first_line queue.now) first most rs result }
-    ensures stops { StopsLines w.old w.new result }
-    ensures stays { HasCleanDisk (state S.Store rows.new.conn.now) → IsSettled (state S.Store rows.old.conn.now) →
+        StreamsRows sql params (state S.Store rows.old.conn.now) report_shown rs →
+        WritesReportLines W.contents w.old w.new (front.now ++ first_line queue.now) first most rs result }
+    ensures stops { StopsReports w.old w.new result }
+    ensures stays { HasCleanDisk (state S.Store rows.new.conn.now) → ShowsCommitted (state S.Store rows.old.conn.now) →
         Stays (state S.Store rows.old.conn.now) (state S.Store rows.new.conn.now) }
     ensures crash { Survives (state S.Store rows.old.conn.now) (state S.Store rows.new.conn.now) (λ _. ⊥) }
 {
@@ -166,10 +167,10 @@ pub fn write_reports<S: Alter, W: Write>(
     requires unfailed { has_failed w.old ≡ false }
     ensures found { HasCleanDisk (state S.Store conn.new) → (rs : List Told) →
         (IsTrue (state S.Store conn.old).is_open →
-        Streams sql.now (bound params.now) (state S.Store conn.old) report_shown rs) →
-        WritesLines W.contents w.old w.new (front.now ++ first_line queue.now) first most rs result }
+        StreamsRows sql.now (bound params.now) (state S.Store conn.old) report_shown rs) →
+        WritesReportLines W.contents w.old w.new (front.now ++ first_line queue.now) first most rs result }
     ensures opened { OpenedHistory (state S.Store conn.old) (state S.Store conn.new) result }
-    ensures stops { StopsLines w.old w.new result }
+    ensures stops { StopsReports w.old w.new result }
     ensures stays { HasCleanDisk (state S.Store conn.new) → OnlyReads sql.now →
         Stays (state S.Store conn.old) (state S.Store conn.new) }
     ensures crash { HasCleanDisk (state S.Store conn.new) → OnlyReads sql.now →
@@ -190,7 +191,7 @@ pub fn write_reports<S: Alter, W: Write>(
 /// Writes the last line, with so many reports; `Broken` where memory is refused for it.
 pub fn write_end<W: Write>(alloc: Global, count: u64, w: &mut Tap<W>) -> Result<(), HistoryFault>
     requires { has_failed w.old ≡ false }
-    ensures { WritesPart W.contents w.old w.new (last_line count) result }
+    ensures { WritesHistoryPart W.contents w.old w.new (closing_line count) result }
 {
     match history_end(alloc, count) {
         Ok(line) => write_text(line.as_bytes(), w),

@@ -3,7 +3,7 @@ ghost use Rattle.std.specs.Prelude.{◌≡◌, false};
 ghost use Rattle.sqlite.specs.Held.{state};
 ghost use Rattle.sqlite.specs.State.{HasCleanDisk};
 ghost use Rattle.gate_types.specs.Tap.{has_failed};
-ghost use Rattle.gate_book_trait.specs.Writes.{Stops};
+ghost use Rattle.gate_book_trait.specs.Writes.{StopsHistoryWriter};
 ghost use Rattle.gate_queue_queries.specs.History.{WritesReports};
 ghost use Rattle.gate_found_rows.specs.Reads.{IsOnlyRead};
 
@@ -33,7 +33,7 @@ pub fn history<S: Alter, W: Write>(
     requires { has_failed w.old ≡ false }
     ensures found { HasCleanDisk (state S.Store conn.new) →
         WritesReports (state S.Store conn.old) queue.now front.now W.contents w.old w.new result }
-    ensures stops { Stops w.old w.new result }
+    ensures stops { StopsHistoryWriter w.old w.new result }
     ensures only_reads { IsOnlyRead (state S.Store conn.old) (state S.Store conn.new) }
 {
     if !conn.is_autocommit() {

@@ -19,7 +19,7 @@ use Rattle.gate_types.specs.Standing.{places_after, with_ahead, next_ahead}
 use Rattle.gate_types.specs.Sweep.{Judged, judge, judged_after, verdict_of, next_staying, next_window, report_of}
 use Rattle.gate_types.specs.Window.{Bounds}
 use Rattle.gate_types.specs.declared.rows.ReportRow.{ReportRow}
-use Rattle.gate_types.specs.Rows.{Rows, row_of, numbered, edited, edited_items, edited_builds, edited_reports}
+use Rattle.gate_types.specs.Rows.{Rows, row_of, numbered_reports, edited, edited_items, edited_builds, edited_reports}
 use Rattle.gate_types.specs.Rows.{edited_window, fold_edits}
 use Rattle.gate_types.specs.Rising.{RisesFrom}
 use Rattle.gate_queue_rules.specs.Edits.{stops, stop_edits, item_edits, edits_at, edits_after, next_reports}
@@ -93,43 +93,43 @@ window_same bounds w i (Some (verdict.Landed n)) = refl
 -- ---- the reports
 
 -- a report behind all others is the last row
-pub put_last : (k : ℕ) (rs : List Report) (r : Report) (n : ℕ) → n ≡ k + length rs → put_by (λ (x : ReportRow). x.place) (record { place = n + 1; report = r }) (numbered k rs) ≡ numbered k (rs ++ r ∷ [])
+pub put_last : (k : ℕ) (rs : List Report) (r : Report) (n : ℕ) → n ≡ k + length rs → put_by (λ (x : ReportRow). x.place) (record { place = n + 1; report = r }) (numbered_reports k rs) ≡ numbered_reports k (rs ++ r ∷ [])
 put_last k [] r n e = let at : n + 1 ≡ suc k = omega arith in ap (λ m. record { place = m; report = r } ∷ []) at
 put_last k (x ∷ rs) r n e =
-    let rest = put_by (λ (y : ReportRow). y.place) (record { place = n + 1; report = r }) (numbered (suc k) rs) in
+    let rest = put_by (λ (y : ReportRow). y.place) (record { place = n + 1; report = r }) (numbered_reports (suc k) rs) in
     let first : ReportRow = record { place = suc k; report = x } in
     let new : ReportRow = record { place = n + 1; report = r } in
-    ap (λ t. cond t (new ∷ numbered (suc k) rs) (cond (nat_lt (n + 1) (suc k)) (new ∷ first ∷ numbered (suc k) rs) (first ∷ rest))) (ne_eqb (n + 1) (suc k) (λ s. omega (arith, s)))
-    ∙ ap (λ t. cond t (new ∷ first ∷ numbered (suc k) rs) (first ∷ rest)) (le-ltb (n + 1) (suc k) (omega arith))
+    ap (λ t. cond t (new ∷ numbered_reports (suc k) rs) (cond (nat_lt (n + 1) (suc k)) (new ∷ first ∷ numbered_reports (suc k) rs) (first ∷ rest))) (ne_eqb (n + 1) (suc k) (λ s. omega (arith, s)))
+    ∙ ap (λ t. cond t (new ∷ first ∷ numbered_reports (suc k) rs) (first ∷ rest)) (le-ltb (n + 1) (suc k) (omega arith))
     ∙ ap (λ l. first ∷ l) (put_last (suc k) rs r n (omega arith))
 
 abbrev pub reports_of : List Judged → List Report
 reports_of js = filter_map (λ j. option_map (λ v. report_of v j.item) j.verdict) js
 
 pub reports_own : (name : List ℕ) (rs : List Report) (bs : List Build) (p : Place) (v : Option Verdict) (js : List Judged) →
-    (l : List Report) × (fold (edited_reports name) (numbered 0 rs) (item_edits name (length rs) (row_of bs p) v) ≡ numbered 0 l) × (length l ≡ next_reports (length rs) v) × (l ++ reports_of js ≡ rs ++ reports_of (record { item = p.item; verdict = v } ∷ js))
+    (l : List Report) × (fold (edited_reports name) (numbered_reports 0 rs) (item_edits name (length rs) (row_of bs p) v) ≡ numbered_reports 0 l) × (length l ≡ next_reports (length rs) v) × (l ++ reports_of js ≡ rs ++ reports_of (record { item = p.item; verdict = v } ∷ js))
 reports_own name rs bs p None js = (rs, refl, refl, refl)
 reports_own name rs bs p (Some v) js =
     let r = report_of v p.item in (
       rs ++ r ∷ [],
-      ap (λ t. cond t (put_by (λ (x : ReportRow). x.place) (record { place = length rs + 1; report = r }) (numbered 0 rs)) (numbered 0 rs)) (name_itself name) ∙ put_last 0 rs r (length rs) (omega arith),
+      ap (λ t. cond t (put_by (λ (x : ReportRow). x.place) (record { place = length rs + 1; report = r }) (numbered_reports 0 rs)) (numbered_reports 0 rs)) (name_itself name) ∙ put_last 0 rs r (length rs) (omega arith),
       length-append rs (r ∷ []),
       append_assoc rs (r ∷ []) (reports_of js),
     )
 
 pub reports_fold : (name : List ℕ) (rs : List Report) (bs : List Build) (n : ℕ) (staying : List Item) (ps : List Place) → length rs ≡ n →
-    fold (edited_reports name) (numbered 0 rs) (edits_along name bs n staying ps) ≡ numbered 0 (rs ++ reports_of (judged_after bs staying ps))
-reports_fold name rs bs n staying [] e = ap (numbered 0) (sym (append-nil rs))
+    fold (edited_reports name) (numbered_reports 0 rs) (edits_along name bs n staying ps) ≡ numbered_reports 0 (rs ++ reports_of (judged_after bs staying ps))
+reports_fold name rs bs n staying [] e = ap (numbered_reports 0) (sym (append-nil rs))
 reports_fold name rs bs n staying (p ∷ ps) e =
     let v = verdict_of bs staying p in
     let next = next_staying staying (judge bs staying p) in
     let rest = edits_along name bs (next_reports n v) next ps in
     let own = reports_own name rs bs p v (judged_after bs next ps) in
-    at_step (edited_reports name) (λ y k. refl) name bs n staying p (numbered 0 rs) rest
-    ∙ ap (λ m. fold (edited_reports name) (fold (edited_reports name) (numbered 0 rs) (item_edits name m (row_of bs p) v)) rest) (sym e)
+    at_step (edited_reports name) (λ y k. refl) name bs n staying p (numbered_reports 0 rs) rest
+    ∙ ap (λ m. fold (edited_reports name) (fold (edited_reports name) (numbered_reports 0 rs) (item_edits name m (row_of bs p) v)) rest) (sym e)
     ∙ ap (λ z. fold (edited_reports name) z rest) own.1
     ∙ reports_fold name own.0 bs (next_reports n v) next ps (own.2 ∙ ap (λ m. next_reports m v) e)
-    ∙ ap (numbered 0) own.3
+    ∙ ap (numbered_reports 0) own.3
 
 -- ---- the items
 

@@ -17,7 +17,7 @@ use Rattle.gate_types.specs.Standing.{places_after}
 use Rattle.gate_types.specs.Rebase.{stays_live}
 use Rattle.gate_types.specs.Sweep.{Judged, judge, judged_after, next_staying, next_window, verdict_of, goes}
 use Rattle.gate_types.specs.Sweep.{without_runs}
-use Rattle.gate_types.specs.Rows.{numbered, row_of, fold_edits, edited_items, edited_builds, edited_reports}
+use Rattle.gate_types.specs.Rows.{numbered_reports, row_of, fold_edits, edited_items, edited_builds, edited_reports}
 use Rattle.gate_types.specs.Rows.{edited_window}
 use Rattle.gate_types.specs.Rising.{RisesFrom}
 use Rattle.gate_queue_rules.specs.Edits.{edits_after, window_edits, edits_of_queue}
@@ -121,13 +121,13 @@ rows_settled ps bs r =
 
 -- what the edits make of the rows
 pub edits_make : (name : List ℕ) (bounds : Bounds) (w n : ℕ) (bs : List Build) (is : List ItemRow) (ps : List Place) (rs : List Report) → length rs ≡ n → GoWith is ps → RisesFrom row_serial 0 is → RisesFrom build_number 0 bs →
-    fold_edits (record { name = name; window = w; items = is; builds = bs; reports = numbered 0 rs }) (edits_of_queue name bounds w n bs ps)
+    fold_edits (record { name = name; window = w; items = is; builds = bs; reports = numbered_reports 0 rs }) (edits_of_queue name bounds w n bs ps)
     ≡ record {
       name = name;
       window = fold (next_window bounds) w (verdicts ps bs);
       items = map (row_of bs) (stayers (goes (verdicts ps bs)) (places_after bs [] ps));
       builds = without_runs (goes (verdicts ps bs)) (rebased ps bs);
-      reports = numbered 0 (rs ++ reports_of (verdicts ps bs));
+      reports = numbered_reports 0 (rs ++ reports_of (verdicts ps bs));
     }
 edits_make name bounds w n bs is ps rs en g r rb =
     let qs = places_after bs [] ps in
@@ -138,7 +138,7 @@ edits_make name bounds w n bs is ps rs en g r rb =
     let last = window_edits name w new in
     let rp = places_rise 0 is ps g r in
     let rq = ahead_rise bs 0 [] ps rp in
-    let parts = fold_parts (record { name = name; window = w; items = is; builds = bs; reports = numbered 0 rs }) (own ++ last) in
+    let parts = fold_parts (record { name = name; window = w; items = is; builds = bs; reports = numbered_reports 0 rs }) (own ++ last) in
     let windows : fold (edited_window name) w (own ++ last) ≡ new =
     fold-append (edited_window name) w own last ∙ ap (λ z. fold (edited_window name) z last) (ap (fold (edited_window name) w) same ∙ window_fold name w bs n [] qs) ∙ window_set name w new in
     let items : fold (edited_items name) is (own ++ last) ≡ map (row_of bs) (stayers (goes js) qs) =
@@ -153,16 +153,16 @@ edits_make name bounds w n bs is ps rs en g r rb =
     ∙ window_leaves (edited_builds name) name w new (fold (edited_builds name) bs own) refl
     ∙ ap (fold (edited_builds name) bs) same
     ∙ builds_fold name bs n qs rb rq in
-    let reports : fold (edited_reports name) (numbered 0 rs) (own ++ last) ≡ numbered 0 (rs ++ reports_of js) =
-    fold-append (edited_reports name) (numbered 0 rs) own last
-    ∙ window_leaves (edited_reports name) name w new (fold (edited_reports name) (numbered 0 rs) own) refl
-    ∙ ap (fold (edited_reports name) (numbered 0 rs)) same
+    let reports : fold (edited_reports name) (numbered_reports 0 rs) (own ++ last) ≡ numbered_reports 0 (rs ++ reports_of js) =
+    fold-append (edited_reports name) (numbered_reports 0 rs) own last
+    ∙ window_leaves (edited_reports name) name w new (fold (edited_reports name) (numbered_reports 0 rs) own) refl
+    ∙ ap (fold (edited_reports name) (numbered_reports 0 rs)) same
     ∙ reports_fold name rs bs n [] qs en in
     parts ∙ (λ k. record { name = name; window = windows k; items = items k; builds = builds k; reports = reports k })
 
 -- they are those of a rebase and then a sweep
 pub settles : (name : List ℕ) (bounds : Bounds) (w n : ℕ) (bs : List Build) (is : List ItemRow) (ls : List Landing) (ps : List Place) (rs : List Report) (items : List Item) → length rs ≡ n → GoWith is ps → RisesFrom row_serial 0 is → RisesFrom build_number 0 bs →
-    fold_edits (record { name = name; window = w; items = is; builds = bs; reports = numbered 0 rs }) (edits_of_queue name bounds w n bs ps)
+    fold_edits (record { name = name; window = w; items = is; builds = bs; reports = numbered_reports 0 rs }) (edits_of_queue name bounds w n bs ps)
     ≡ settled_rows bounds ps bs (record { name = name; window = w; landings = ls; items = items; reports = rs })
 settles name bounds w n bs is ls ps rs items en g r rb =
     let js = verdicts ps bs in
@@ -173,6 +173,6 @@ settles name bounds w n bs is ls ps rs items en g r rb =
       window = fold (next_window bounds) w js;
       items = sym (rows_settled ps bs (places_rise 0 is ps g r)) k;
       builds = without_runs (goes js) (rebased ps bs);
-      reports = numbered 0 (rs ++ reports_of js);
+      reports = numbered_reports 0 (rs ++ reports_of js);
     })
     ∙ ap (λ (l : List Judged). swept_rows bounds l ps (rebased ps bs) q) (sym (verdicts_rebased ps bs))

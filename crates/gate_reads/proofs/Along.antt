@@ -21,7 +21,7 @@ use Rattle.gate_types.specs.Rising.{In}
 use Rattle.gate_laws.proofs.Members.{got}
 use Rattle.gate_laws.proofs.Rising.{Rising, rising}
 use Rattle.gate_book_trait.specs.Reads.{live_builds, plans_of_items, builds_of_items}
-use Rattle.gate_reads.specs.NextBuild.{with_number}
+use Rattle.gate_reads.specs.NextBuild.{under_number}
 use Rattle.gate_reads.specs.Parts.{ahead_behind_one, AreBehind, IsTold, AreTold}
 use Rattle.gate_reads.specs.Places.{IsBehind}
 use Rattle.gate_reads.specs.declared.due.BookItem.{BookItem}
@@ -127,19 +127,19 @@ told_first {s = s} {row = row} {rows = rows} {builds = builds} h items plans tol
 pub along_here : {c : Settings} {s : State} {name : List ℕ} {q : Queue} {ps : List Place} {ahead : List Entry}
     {row : ItemRow} {rows : List ItemRow} {builds : List Build} → (h : Along c s name q ps ahead (row ∷ rows) builds) →
     (number : ℕ) (b : Build) →
-    Some b ≡ option_map (with_number number) (slice_get (builds_for s q (first_behind h.behind).place) 0) →
-    Some b ≡ option_map (with_number number) (slice_get (flat_map (builds_for s q) ps) 0)
+    Some b ≡ option_map (under_number number) (slice_get (builds_for s q (first_behind h.behind).place) 0) →
+    Some b ≡ option_map (under_number number) (slice_get (flat_map (builds_for s q) ps) 0)
 along_here {s = s} {q = q} h number b f =
     let n = first_behind h.behind in
-    first_some (with_number number) b (builds_for s q n.place) (flat_map (builds_for s q) n.others) f
-    ∙ ap (option_map (with_number number)) (sym (h.due ∙ ap (λ (bs : List Build). slice_get bs 0)
+    first_some (under_number number) b (builds_for s q n.place) (flat_map (builds_for s q) n.others) f
+    ∙ ap (option_map (under_number number)) (sym (h.due ∙ ap (λ (bs : List Build). slice_get bs 0)
     (ap (flat_map (builds_for s q)) n.places_are ∙ flat_map-cons (builds_for s q) n.place n.others)))
 
 -- where it has none, the others are left
 pub along_next : {c : Settings} {s : State} {name : List ℕ} {q : Queue} {ps : List Place} {ahead : List Entry}
     {row : ItemRow} {rows : List ItemRow} {builds : List Build} → (h : Along c s name q ps ahead (row ∷ rows) builds) →
     (number : ℕ) (longer : List Entry) (others : List Build) →
-    None ≡ option_map (with_number number) (slice_get (builds_for s q (first_behind h.behind).place) 0) →
+    None ≡ option_map (under_number number) (slice_get (builds_for s q (first_behind h.behind).place) 0) →
     longer ≡ ahead_behind_one ahead row →
     others ≡ drop (prefix_len (λ b. b.serial == row.serial) builds) builds → Along c s name q ps longer rows others
 along_next {c} {s} {name} {q} {row = row} {rows = rows} {builds = builds} h number longer others f a o =
@@ -151,7 +151,7 @@ along_next {c} {s} {name} {q} {row = row} {rows = rows} {builds = builds} h numb
       rise = h.rise.1;
       due = h.due ∙ ap (λ (bs : List Build). slice_get bs 0)
           (ap (flat_map (builds_for s q)) n.places_are ∙ flat_map-cons (builds_for s q) n.place n.others)
-          ∙ first_none (with_number number) (builds_for s q n.place) (flat_map (builds_for s q) n.others) f;
+          ∙ first_none (under_number number) (builds_for s q n.place) (flat_map (builds_for s q) n.others) f;
     }
 
 -- at the end no build is due

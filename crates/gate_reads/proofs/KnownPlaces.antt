@@ -25,7 +25,7 @@ use Rattle.gate_types.proofs.NameLemmas.{same_name_is}
 use Rattle.gate_laws.proofs.Members.{contains_in, found, from_flat, to_flat}
 use Rattle.gate_laws.proofs.Places.{item_of_place}
 use Rattle.gate_book_trait.specs.Reads.{queue_named, landings_in, landings_before, live_builds}
-use Rattle.gate_reads.specs.NextBuild.{with_number}
+use Rattle.gate_reads.specs.NextBuild.{under_number}
 use Rattle.gate_queue_rules.specs.Outcomes.{slot_among}
 use Rattle.gate_reads.specs.Parts.{IsTold}
 use Rattle.gate_reads.specs.Places.{IsBehind, are_met_among, build_on}
@@ -161,7 +161,7 @@ none_waits {c} {s} {told = told} {q = q} {p = p} lawful at t e f = by_blocked (i
 pub built_is : {c : Settings} {s : State} {name : List ℕ} {ahead : List Entry} {row : ItemRow} {q : Queue} {p : Place} →
     IsBehind c s name ahead row q p → (number : ℕ) (job : Job) →
     build_on number name ahead row (landings_before s name row.serial) job.name
-    ≡ with_number number (build_for (s.counters.build + 1) q p job)
+    ≡ under_number number (build_for (s.counters.build + 1) q p job)
 built_is {c} {s} {name} {ahead} {row} {q} {p} at number job =
     let facts = place_facts c s q p (contains_in (places c s q) p at.there) in
     let below : landings_before s name row.serial ≡ length (landings_below p) =

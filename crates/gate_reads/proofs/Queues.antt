@@ -15,7 +15,7 @@ use Rattle.gate_types.specs.Rising.{In}
 use Rattle.gate_laws.proofs.Members.{found, not_found}
 use Rattle.gate_laws.proofs.Alone.{name_alone, same_name_of}
 use Rattle.gate_book_trait.specs.Reads.{queue_named}
-use Rattle.gate_reads.specs.NextBuild.{with_number}
+use Rattle.gate_reads.specs.NextBuild.{under_number}
 use Rattle.gate_reads.proofs.Trying.{first_some, first_none}
 
 -- a queue is the one of its name
@@ -91,17 +91,17 @@ queue_there c s k r rs a h e l i =
 
 pub choice_here : {c : Settings} {s : State} {k : ℕ} {name : List ℕ} → (there : IsThere c s k name) (number : ℕ)
     (b : Build) → choose c s ≡ choice_from c s k →
-    Some b ≡ option_map (with_number number) (slice_get (choices c s there.queue) 0) →
-    Some b ≡ option_map (with_number number) (choose c s)
+    Some b ≡ option_map (under_number number) (slice_get (choices c s there.queue) 0) →
+    Some b ≡ option_map (under_number number) (choose c s)
 choice_here {c} {s} {k} there number b e f =
-    first_some (with_number number) b (choices c s there.queue) (flat_map (choices c s) (drop (suc k) s.queues)) f
-    ∙ ap (option_map (with_number number)) (sym (e ∙ there.choice))
+    first_some (under_number number) b (choices c s there.queue) (flat_map (choices c s) (drop (suc k) s.queues)) f
+    ∙ ap (option_map (under_number number)) (sym (e ∙ there.choice))
 
 pub choice_next : {c : Settings} {s : State} {k : ℕ} {name : List ℕ} → (there : IsThere c s k name) (number : ℕ) →
-    choose c s ≡ choice_from c s k → None ≡ option_map (with_number number) (slice_get (choices c s there.queue) 0) →
+    choose c s ≡ choice_from c s k → None ≡ option_map (under_number number) (slice_get (choices c s there.queue) 0) →
     choose c s ≡ choice_from c s (k + 1)
 choice_next {c} {s} {k} there number e f =
     let step : suc k ≡ k + 1 = omega arith in
     e ∙ there.choice
-    ∙ first_none (with_number number) (choices c s there.queue) (flat_map (choices c s) (drop (suc k) s.queues)) f
+    ∙ first_none (under_number number) (choices c s there.queue) (flat_map (choices c s) (drop (suc k) s.queues)) f
     ∙ ap (choice_from c s) step

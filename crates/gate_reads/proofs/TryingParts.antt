@@ -20,7 +20,7 @@ use Rattle.gate_types.specs.Rows.{row_of}
 use Rattle.gate_types.specs.Rising.{In}
 use Rattle.gate_laws.proofs.Members.{all, in_contains}
 use Rattle.gate_book_trait.specs.Reads.{queue_named, items_in, first_items_above}
-use Rattle.gate_reads.specs.NextBuild.{with_number}
+use Rattle.gate_reads.specs.NextBuild.{under_number}
 use Rattle.gate_reads.specs.Parts.{last_serial, ahead_behind, most_at_once, AreBehind}
 use Rattle.gate_reads.proofs.Walking.{IsLeft, place_behind, places_from, left_behind, rows_are, rows_left}
 use Rattle.gate_reads.proofs.RisingRows.{rows_above}
@@ -136,13 +136,13 @@ part_behind {c} {s} {q} h name e most rows r = record {
 
 pub part_here : {c : Settings} {s : State} {q : Queue} {above left : ℕ} {ahead : List Entry} →
     (h : Tried c s q above left ahead) → (most : ℕ) → fits q.window left most ≡ true → (number : ℕ) (b : Build) →
-    Some b ≡ option_map (with_number number) (slice_get (flat_map (builds_for s q) (part_places most h)) 0) →
-    Some b ≡ option_map (with_number number) (slice_get (choices c s q) 0)
+    Some b ≡ option_map (under_number number) (slice_get (flat_map (builds_for s q) (part_places most h)) 0) →
+    Some b ≡ option_map (under_number number) (slice_get (choices c s q) 0)
 part_here {c} {s} {q} {left = left} h most o number b f =
     let ps = places_from c s q h.items h.rest in
     let parts = open_part q.window left most ps o in
-    first_some (with_number number) b (flat_map (builds_for s q) (take most ps)) (flat_map (builds_for s q) parts.0) f
-    ∙ ap (option_map (with_number number)) (sym (h.due ∙ ap (λ (bs : List Build). slice_get bs 0)
+    first_some (under_number number) b (flat_map (builds_for s q) (take most ps)) (flat_map (builds_for s q) parts.0) f
+    ∙ ap (option_map (under_number number)) (sym (h.due ∙ ap (λ (bs : List Build). slice_get bs 0)
     (ap (flat_map (builds_for s q)) parts.1 ∙ flat_map-append (builds_for s q) (take most ps) parts.0)))
 
 pub part_short : {c : Settings} {s : State} {q : Queue} {above left : ℕ} {ahead : List Entry} →
@@ -237,8 +237,8 @@ one_more c s q m go above left ahead h rows o f r = by_rest h.rest refl
               (open_places q.window left (places_from c s q h.items is))) 0) e
               ∙ ap (λ (bs : List Build). slice_get bs 0)
               (open_first s q q.window left p behind (fits_one q.window left m o))
-              ∙ first_none (with_number 0) (builds_for s q p) (flat_map (builds_for s q)
-              (open_places q.window (left - 1) behind)) (sym (ap (option_map (with_number 0)) none.0));
+              ∙ first_none (under_number 0) (builds_for s q p) (flat_map (builds_for s q)
+              (open_places q.window (left - 1) behind)) (sym (ap (option_map (under_number 0)) none.0));
         } in
         let others = map (row_of s.builds) (take m behind) in
         let less : left - 1 - length others ≡ left - suc (length others) = omega arith in

@@ -26,8 +26,8 @@ pub record Columns : Type 0 where
   pub failing : Bool
 
 -- the row of an item, by the columns of its serial
-abbrev pub row_by : (ℕ → Columns) → Item → ItemRow
-row_by columns i = record {
+abbrev pub row_by_columns : (ℕ → Columns) → Item → ItemRow
+row_by_columns columns i = record {
   serial = i.serial;
   change = i.change;
   revision = i.revision;
@@ -37,7 +37,7 @@ row_by columns i = record {
 
 -- the tables of a content but for the columns, which are these
 abbrev pub tables_by : (ℕ → Columns) → Content → Tables
-tables_by columns x = tables_with (λ q. map (row_by columns) q.items) x
+tables_by columns x = tables_with (λ q. map (row_by_columns columns) q.items) x
 
 -- the columns at a place
 abbrev pub columns_at : List Build → Place → Columns

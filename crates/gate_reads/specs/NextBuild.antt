@@ -3,5 +3,5 @@ use Rattle.std.specs.Prelude.{ℕ}
 use Rattle.gate_types.specs.declared.records.Build.{Build}
 
 -- a build under another number
-abbrev pub with_number : ℕ → Build → Build
-with_number n b = record b { number = n }
+abbrev pub under_number : ℕ → Build → Build
+under_number n b = record b { number = n }

@@ -6,7 +6,7 @@ ghost use Rattle.gate_types.specs.Choice.{choices, choose};
 ghost use Rattle.gate_book_trait.specs.Faults.{MayAnswer};
 ghost use Rattle.gate_book_trait.specs.Reading.{IsReadUnder};
 ghost use Rattle.gate_book_trait.specs.Reads.{queue_named};
-ghost use Rattle.gate_reads.specs.NextBuild.{with_number};
+ghost use Rattle.gate_reads.specs.NextBuild.{under_number};
 
 use crate::part::{Part, build_of_part, read_part, size_of_part};
 use gate_book_trait::{Book, BookFault};
@@ -58,7 +58,7 @@ fn first_build<B: Book>(
     ensures { IsReadUnder B.IsTrusted B.Holds B.LeavesOneOf (MayAnswer B.MayFault) book.old book.new config.now (λ x.
         (q : Queue) → queue_named x.state queue.now ≡ Some q → window ≡ q.window →
         IfOk result (λ found. found
-        ≡ option_map (with_number number) (slice_get (choices config.now x.state q) 0))) result }
+        ≡ option_map (under_number number) (slice_get (choices config.now x.state q) 0))) result }
 {
     let mut ahead = Sequence::new(alloc);
     let mut above = 0;
@@ -90,7 +90,7 @@ fn build_of_queue<B: Book>(
     ensures { IsReadUnder B.IsTrusted B.Holds B.LeavesOneOf (MayAnswer B.MayFault) book.old book.new config.now (λ x.
         (q : Queue) → queue_named x.state queue.now ≡ Some q →
         IfOk result (λ found. found
-        ≡ option_map (with_number number) (slice_get (choices config.now x.state q) 0))) result }
+        ≡ option_map (under_number number) (slice_get (choices config.now x.state q) 0))) result }
 {
     match book.window(queue)? {
         Some(window) => first_build(alloc, book, config, queue, window, number),
@@ -107,7 +107,7 @@ pub fn next_build<B: Book>(
     number: BuildNo,
 ) -> Result<Option<Build>, BookFault>
     ensures { IsReadUnder B.IsTrusted B.Holds B.LeavesOneOf (MayAnswer B.MayFault) book.old book.new config.now (λ x.
-        IfOk result (λ found. found ≡ option_map (with_number number) (choose config.now x.state))) result }
+        IfOk result (λ found. found ≡ option_map (under_number number) (choose config.now x.state))) result }
 {
     for queue in config.queues.as_slice() {
         if let Some(build) = build_of_queue(alloc, book, config, &queue.name, number)? {

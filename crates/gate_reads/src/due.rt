@@ -8,7 +8,7 @@ ghost use Rattle.gate_types.specs.Choice.{builds_for};
 ghost use Rattle.gate_book_trait.specs.Faults.{MayAnswer};
 ghost use Rattle.gate_book_trait.specs.Reading.{IsRead, IsReadUnder};
 ghost use Rattle.gate_book_trait.specs.Reads.{landings_before};
-ghost use Rattle.gate_reads.specs.NextBuild.{with_number};
+ghost use Rattle.gate_reads.specs.NextBuild.{under_number};
 ghost use Rattle.gate_reads.specs.Parts.{IsTold};
 ghost use Rattle.gate_reads.specs.Places.{IsBehind, are_met_among, build_on};
 
@@ -112,7 +112,7 @@ pub(crate) fn build_of_item<B: Book>(
     ensures { IsReadUnder B.IsTrusted B.Holds B.LeavesOneOf (MayAnswer B.MayFault) book.old book.new config.now (λ x.
         (q : Queue) (p : Place) →
         IsBehind config.now x.state queue.now ahead.now told.now.row q p → IsTold x.state told.now →
-        IfOk result (λ found. found ≡ option_map (with_number number) (slice_get (builds_for x.state q p) 0))) result }
+        IfOk result (λ found. found ≡ option_map (under_number number) (slice_get (builds_for x.state q p) 0))) result }
 {
     if is_cut(told.fast, false, told.row.failing) {
         return Ok(None);

@@ -1,5 +1,5 @@
 //! The orders that are shown.
-ghost use Rattle.std.specs.Prelude.{◌≡◌, IfOk};
+ghost use Rattle.std.specs.Prelude.{IfOk};
 ghost use Rattle.gate_types.specs.SubmitOrder.{shown_order};
 ghost use Rattle.gate_book_trait.specs.Faults.{MayAnswer};
 ghost use Rattle.gate_book_trait.specs.Reading.{IsReadUnder};

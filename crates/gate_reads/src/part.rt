@@ -7,7 +7,7 @@ ghost use Rattle.gate_types.specs.Line.{Place};
 ghost use Rattle.gate_types.specs.Choice.{builds_for};
 ghost use Rattle.gate_book_trait.specs.Faults.{MayAnswer};
 ghost use Rattle.gate_book_trait.specs.Reading.{IsRead, IsReadUnder};
-ghost use Rattle.gate_reads.specs.NextBuild.{with_number};
+ghost use Rattle.gate_reads.specs.NextBuild.{under_number};
 ghost use Rattle.gate_reads.specs.Parts.{last_serial, ahead_behind, most_at_once, AreBehind, AreTold, TellsPart};
 
 use crate::choosing::push_unless_failing;
@@ -137,7 +137,7 @@ pub(crate) fn build_of_part<B: Book>(
         (λ x. (q : Queue) (ps : List Place) →
         AreBehind config.now x.state queue.now ahead.old part.now.items q ps → AreTold x.state part.now →
         IfOk result (λ found. found
-        ≡ option_map (with_number number) (slice_get (flat_map (builds_for x.state q) ps) 0))) result }
+        ≡ option_map (under_number number) (slice_get (flat_map (builds_for x.state q) ps) 0))) result }
     ensures ahead { IfOk result (λ found. found ≡ None → ahead.new ≡ ahead_behind ahead.old part.now.items) }
 {
     let mut left = part.builds.as_slice();

@@ -1,7 +1,7 @@
 -- What is told, after any edit.
 use Rattle.gate_types.specs.declared.edits.Edit.{Edit}
 use Rattle.gate_types.specs.declared.edits.Edit.TheVariants as edit
-use Rattle.gate_rows.specs.Matches.{IsTold}
+use Rattle.gate_rows.specs.Matches.{EditIsTold}
 use Rattle.gate_rows.proofs.ChangeMatches.{matches_change, matches_stage}
 use Rattle.gate_rows.proofs.HistoryMatches.{matches_landing, matches_report}
 use Rattle.gate_rows.proofs.ItemMatches.{matches_item}
@@ -9,7 +9,7 @@ use Rattle.gate_rows.proofs.PlanMatches.{matches_land, matches_plan}
 use Rattle.gate_rows.proofs.MatchLemmas.{matches_build, matches_counter, matches_drop, matches_kept, matches_outcome}
 use Rattle.gate_rows.proofs.MatchLemmas.{matches_stop, matches_window}
 
-pub every_told : (e : Edit) → IsTold e
+pub every_told : (e : Edit) → EditIsTold e
 every_told (edit.PutChange k a) = λ b t order fits have told. matches_change k a b t order told
 every_told (edit.SetStage n g) = λ b t order fits have told. matches_stage n g b t told
 every_told (edit.PutItem name i) = λ b t order fits have told. matches_item name i b t order fits told

@@ -17,7 +17,7 @@ use Rattle.gate_types.specs.declared.records.Item.{Item}
 use Rattle.gate_types.proofs.PlainLemmas.{below_or}
 use Rattle.gate_schema.specs.Edits.{after_edit, item_in}
 use Rattle.gate_schema.specs.Rows.{ItemRow, QueueRow, Stored, item_key}
-use Rattle.gate_rows.specs.Matches.{Fits, IsInOrder, IsQueue, Matches, items_of, landings_of, placed, reports_of}
+use Rattle.gate_rows.specs.Matches.{Fits, IsInOrder, IsStoredQueue, Matches, items_of, landings_of, placed, reports_of}
 use Rattle.gate_rows.proofs.PutLemmas.{put_after, put_before, put_first, put_is}
 use Rattle.gate_rows.proofs.MatchLemmas.{of_queue_changed, of_queue_same, placed_same}
 
@@ -40,7 +40,7 @@ none_named name other same n (q ∷ qs) none = go (same_name q.name other) refl 
     go false e none more = ap (λ c. c || list_any (λ (q : QueueRow). same_name q.name name) (placed (suc n) qs)) (like name other q.name same ∙ e) ∙ more none
 
 -- a list that is added to only where the queue is there
-pub nothing_added : {X : Type 0} (name other : List ℕ) (b : Stored) (t : Tables) (added : List X) → IsQueue name b → b.queues ≡ placed 0 t.queues
+pub nothing_added : {X : Type 0} (name other : List ℕ) (b : Stored) (t : Tables) (added : List X) → IsStoredQueue name b → b.queues ≡ placed 0 t.queues
     → find (λ (q : QueueRows). same_name q.name other) t.queues ≡ None → cond (same_name name other) added [] ≡ []
 nothing_added name other b t added there places none = go (same_name name other) refl
   where

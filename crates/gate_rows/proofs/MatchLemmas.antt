@@ -15,7 +15,7 @@ use Rattle.gate_types.specs.declared.records.Build.{Build}
 use Rattle.gate_types.specs.declared.records.Kept.{Kept}
 use Rattle.gate_types.specs.declared.records.Item.{Item}
 use Rattle.gate_types.specs.declared.records.Outcome.{Outcome}
-use Rattle.gate_schema.specs.Edits.{after_edit, with_window}
+use Rattle.gate_schema.specs.Edits.{after_edit, at_window}
 use Rattle.gate_schema.specs.Rows.{QueueRow, ItemRow, QueueLanding, QueueReport, Stored, build_key, item_key}
 use Rattle.gate_rows.specs.Matches.{IsInOrder, Matches, QueuesMatch, items_of, landings_of, reports_of, of_queue, placed}
 use Rattle.gate_rows.proofs.PutLemmas.{put_is}
@@ -56,15 +56,15 @@ placed_same f names windows n (q ∷ qs) =
 
 -- a window set
 pub placed_window : (f : QueueRows → QueueRows) (name : List ℕ) (w : ℕ) → ((q : QueueRows) → (f q).name ≡ q.name) → ((q : QueueRows) → (f q).window ≡ cond (same_name name q.name) w q.window)
-    → (n : ℕ) (qs : List QueueRows) → map (λ (q : QueueRow). cond (same_name q.name name) (with_window w q) q) (placed n qs) ≡ placed n (map f qs)
+    → (n : ℕ) (qs : List QueueRows) → map (λ (q : QueueRow). cond (same_name q.name name) (at_window w q) q) (placed n qs) ≡ placed n (map f qs)
 placed_window f name w names windows n [] = refl
 placed_window f name w names windows n (q ∷ qs) =
     let turned : same_name q.name name ≡ same_name name q.name = nat_list_eq_equiv.symm q.name name in
     let old : QueueRow = record { name = q.name; place = n; window = q.window } in
     let rest = placed (suc n) (map f qs) in
-    ap (λ l. cond (same_name q.name name) (with_window w old) old ∷ l) (placed_window f name w names windows (suc n) qs)
-    ∙ ap (λ c. cond c (with_window w old) old ∷ rest) turned
-    ∙ elim (same_name name q.name) as (λ c. cond c (with_window w old) old ∷ rest ≡ (record { name = q.name; place = n; window = cond c w q.window }) ∷ rest) [ true ↦ refl | false ↦ refl ]
+    ap (λ l. cond (same_name q.name name) (at_window w old) old ∷ l) (placed_window f name w names windows (suc n) qs)
+    ∙ ap (λ c. cond c (at_window w old) old ∷ rest) turned
+    ∙ elim (same_name name q.name) as (λ c. cond c (at_window w old) old ∷ rest ≡ (record { name = q.name; place = n; window = cond c w q.window }) ∷ rest) [ true ↦ refl | false ↦ refl ]
     ∙ sym (ap (λ m. (record { name = m; place = n; window = (f q).window }) ∷ rest) (names q) ∙ ap (λ w. (record { name = q.name; place = n; window = w }) ∷ rest) (windows q))
 
 -- an edit that leaves what stands of each queue
@@ -143,7 +143,7 @@ matches_window name w b t h =
     let f = edited_queue (edit.SetWindow name w) in
     record {
       queues_are = record {
-        places = ap (map (λ (q : QueueRow). cond (same_name q.name name) (with_window w q) q)) h.queues_are.places ∙ placed_window f name w (λ q. refl) (λ q. refl) 0 t.queues;
+        places = ap (map (λ (q : QueueRow). cond (same_name q.name name) (at_window w q) q)) h.queues_are.places ∙ placed_window f name w (λ q. refl) (λ q. refl) 0 t.queues;
         items_are = λ other. h.queues_are.items_are other ∙ sym (of_queue_same (λ q. q.items) f (λ q. refl) (λ q. refl) other t.queues);
         landings_are = λ other. subst (λ l. IsPermutation (landings_of other b.landings) l) (sym (of_queue_same (λ q. q.landings) f (λ q. refl) (λ q. refl) other t.queues)) (h.queues_are.landings_are other);
         reports_are = λ other. subst (λ l. IsPermutation (reports_of other b.reports) l) (sym (of_queue_same (λ q. q.reports) f (λ q. refl) (λ q. refl) other t.queues)) (h.queues_are.reports_are other);

@@ -97,8 +97,8 @@ pub record StandsFor (db : Trees) (c : Settings) (x : Content) : Type 0 where
 -- ---- what an edit asks
 
 -- there is a queue of this name
-abbrev pub IsQueue : List ℕ → Stored → Type 0
-IsQueue name b = list_any (λ (q : QueueRow). same_name q.name name) b.queues ≡ true
+abbrev pub IsStoredQueue : List ℕ → Stored → Type 0
+IsStoredQueue name b = list_any (λ (q : QueueRow). same_name q.name name) b.queues ≡ true
 
 -- it has jobs: in the file, a plan without is as none
 abbrev pub HasJobs : Plan → Type 0
@@ -114,9 +114,9 @@ IsFree serial place b = AllByRecursion (λ (y : JobRow). (y.serial == serial && 
 
 -- a row is put in a queue that is there
 abbrev pub NamesQueue : Edit → Stored → Type 0
-NamesQueue (edit.PutItem name i) b = IsQueue name b
-NamesQueue (edit.PutLanding name n l) b = IsQueue name b
-NamesQueue (edit.PutReport name n r) b = IsQueue name b
+NamesQueue (edit.PutItem name i) b = IsStoredQueue name b
+NamesQueue (edit.PutLanding name n l) b = IsStoredQueue name b
+NamesQueue (edit.PutReport name n r) b = IsStoredQueue name b
 NamesQueue _ b = ⊤
 
 -- no other queue has the serial of an item that is put; no landing or report stands at the place of one that is put;
@@ -143,6 +143,6 @@ pub record IsInOrder (b : Stored) : Type 0 where
   pub fast : IsKeyedBy (λ x. pos (fast_key x)) b.fast
 
 -- after the edit, what the file holds is what the gate's tables hold after it
-abbrev pub IsTold : Edit → Type 0
-IsTold e = (b : Stored) (t : Tables) → IsInOrder b → Fits e b → HaveJobs t.plans → Matches b t →
+abbrev pub EditIsTold : Edit → Type 0
+EditIsTold e = (b : Stored) (t : Tables) → IsInOrder b → Fits e b → HaveJobs t.plans → Matches b t →
     Matches (after_edit e b) (edited_tables t e)

@@ -14,7 +14,7 @@ use Rattle.gate_reads.specs.Stands.{StandsSo}
 use Rattle.gate_reads.specs.declared.stands.Stand.{Stand}
 use Rattle.gate_reads.specs.declared.stands.Stand.TheVariants as stand
 use Rattle.gate_ruling.specs.Approving.{is_nowhere}
-use Rattle.gate_ruling.specs.Guards.{GoesOn}
+use Rattle.gate_ruling.specs.Guards.{OthersDecide}
 use Rattle.gate_ruling.proofs.Guarded.{open_goes}
 
 -- the lines on an open change at its latest revision
@@ -23,13 +23,13 @@ approving c s n k =
     if is_ready s n || is_queued s n then accepted reply.Already s else
     accepted (approval_reply n (settle c (made_ready n s))) (made_ready n s)
 
-pub approved_raw : (c : Settings) (s : State) (n r : ℕ) (k : Change) → GoesOn s n r k → is_open k ≡ true →
+pub approved_raw : (c : Settings) (s : State) (n r : ℕ) (k : Change) → OthersDecide s n r k → is_open k ≡ true →
     (is_queued s n ≡ false) × (is_ready s n ≡ false) →
     raw_approved c s n r ≡ accepted (approval_reply n (settle c (made_ready n s))) (made_ready n s)
 approved_raw c s n r k goes opens away =
     open_goes s n r k (approving c s n) goes opens ∙ rw (away.1, away.0) refl
 
-pub already_raw : (c : Settings) (s : State) (n r : ℕ) (k : Change) → GoesOn s n r k → is_open k ≡ true →
+pub already_raw : (c : Settings) (s : State) (n r : ℕ) (k : Change) → OthersDecide s n r k → is_open k ≡ true →
     is_ready s n || is_queued s n ≡ true → raw_approved c s n r ≡ accepted reply.Already s
 already_raw c s n r k goes opens waits =
     open_goes s n r k (approving c s n) goes opens

@@ -18,7 +18,7 @@ use Rattle.gate_types.specs.Step.{Stepped, raw_closed, raw_revision, accepted, r
 use Rattle.gate_types.specs.Step.{is_known_and}
 use Rattle.gate_types.specs.Limits.{most_needs}
 use Rattle.gate_laws.specs.Touch.{is_stale}
-use Rattle.gate_ruling.specs.Guards.{GoesOn}
+use Rattle.gate_ruling.specs.Guards.{OthersDecide}
 use Rattle.gate_ruling.proofs.Guarded.{open_goes}
 use Rattle.gate_laws.proofs.EachAccepted.{closed_state}
 use Rattle.gate_laws.proofs.RecordedChange.{known_number}
@@ -29,7 +29,7 @@ closing c s n k =
     if is_submitting c s n then refused refusal.Submitting else
     accepted (if is_queued s n then reply.Removed else reply.Recorded) (closed_state n s)
 
-pub closed_raw : (c : Settings) (s : State) (n r : ℕ) (k : Change) → GoesOn s n r k → is_open k ≡ true →
+pub closed_raw : (c : Settings) (s : State) (n r : ℕ) (k : Change) → OthersDecide s n r k → is_open k ≡ true →
     is_submitting c s n ≡ false → (said : Reply) (queued : Bool) →
     said ≡ cond queued reply.Removed reply.Recorded → queued ≡ is_queued s n →
     raw_closed c s n r ≡ accepted said (closed_state n s)
@@ -39,7 +39,7 @@ closed_raw c s n r k goes opens free said queued told at =
     ∙ ap (λ b. accepted (cond b reply.Removed reply.Recorded) (closed_state n s)) (sym at)
     ∙ ap (λ y. accepted y (closed_state n s)) (sym told)
 
-pub shown_raw : (c : Settings) (s : State) (n r : ℕ) (k : Change) → GoesOn s n r k → is_open k ≡ true →
+pub shown_raw : (c : Settings) (s : State) (n r : ℕ) (k : Change) → OthersDecide s n r k → is_open k ≡ true →
     is_submitting c s n ≡ true → raw_closed c s n r ≡ refused refusal.Submitting
 shown_raw c s n r k goes opens shown = open_goes s n r k (closing c s n) goes opens ∙ rw shown refl
 

@@ -10,7 +10,7 @@ use Rattle.gate_types.specs.Tables.{edited_plans, edited_build_rows, edited_coun
 use Rattle.gate_types.specs.Tables.{fold_all}
 use Rattle.gate_laws.proofs.Members.{map_map}
 use Rattle.gate_laws.proofs.TableParts.{all_parts}
-use Rattle.gate_reads.specs.Moves.{Columns, row_by, tables_by, in_state, Moves}
+use Rattle.gate_reads.specs.Moves.{Columns, row_by_columns, tables_by, in_state, Moves}
 
 -- edits that move to t, then edits that move on from there
 pub moves_on : (x : Content) (t u : State) (first more : List Edit) → Moves x first t → Moves (in_state x t) more u →
@@ -20,7 +20,7 @@ moves_on x t u first more f g = λ columns.
 
 -- a queue in tables, by the columns of its items
 abbrev pub shown : (ℕ → Columns) → Queue → QueueRows
-shown columns q = queue_rows (map (row_by columns) q.items) q
+shown columns q = queue_rows (map (row_by_columns columns) q.items) q
 
 -- a queue in tables after edits
 abbrev pub shown_after : (ℕ → Columns) → List Edit → Queue → QueueRows

@@ -5,7 +5,7 @@ use Rattle.gate_types.specs.declared.records.Change.{Change}
 use Rattle.gate_types.specs.declared.deliveries.Reply.TheVariants as reply
 use Rattle.gate_types.specs.State.{State, is_open}
 use Rattle.gate_types.specs.Step.{Stepped, accepted, on_known}
-use Rattle.gate_ruling.specs.Guards.{unless_past, GoesOn}
+use Rattle.gate_ruling.specs.Guards.{unless_past, OthersDecide}
 
 -- stale where the change isn't open, else as the other lines say
 abbrev pub unless_closed : State → (Change → Stepped) → Change → Stepped
@@ -22,14 +22,14 @@ pub past_or_closed : (s : State) (n r : ℕ) (f : Change → Stepped) →
 past_or_closed s n r f =
     λ i. on_known s n r (λ k. either (nat_lt r k.revision) (not (is_open k)) (accepted reply.Stale s) (f k) i)
 
-pub open_goes : (s : State) (n r : ℕ) (k : Change) (f : Change → Stepped) → GoesOn s n r k → is_open k ≡ true →
+pub open_goes : (s : State) (n r : ℕ) (k : Change) (f : Change → Stepped) → OthersDecide s n r k → is_open k ≡ true →
     on_known s n r (λ k. if nat_lt r k.revision || not (is_open k) then accepted reply.Stale s else f k) ≡ f k
 open_goes s n r k f goes opens =
     past_or_closed s n r f
     ∙ goes (unless_closed s f)
     ∙ ap (λ b. cond (not b) (accepted reply.Stale s) (f k)) opens
 
-pub closed_stale : (s : State) (n r : ℕ) (k : Change) (f : Change → Stepped) → GoesOn s n r k → is_open k ≡ false →
+pub closed_stale : (s : State) (n r : ℕ) (k : Change) (f : Change → Stepped) → OthersDecide s n r k → is_open k ≡ false →
     on_known s n r (λ k. if nat_lt r k.revision || not (is_open k) then accepted reply.Stale s else f k)
     ≡ accepted reply.Stale s
 closed_stale s n r k f goes ended =

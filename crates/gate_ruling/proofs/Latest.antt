@@ -6,7 +6,7 @@ use Rattle.gate_types.specs.declared.deliveries.Reply.TheVariants as reply
 use Rattle.gate_types.specs.declared.deliveries.Refusal.TheVariants as refusal
 use Rattle.gate_types.specs.State.{State, known_change}
 use Rattle.gate_types.specs.Step.{Stepped, accepted, refused, on_known}
-use Rattle.gate_ruling.specs.Guards.{unless_past, GoesOn}
+use Rattle.gate_ruling.specs.Guards.{unless_past, OthersDecide}
 
 pub unknown : (s : State) (n r : ℕ) (f : Change → Stepped) → known_change s n ≡ None →
     on_known s n r f ≡ refused refusal.UnknownChange
@@ -21,5 +21,5 @@ pub past : (s : State) (n r : ℕ) (f : Change → Stepped) (k : Change) → kno
 past s n r f k known less = rw (known, le-ltb k.revision r (omega arith), lt-ltb r k.revision less) refl
 
 pub at_latest : (s : State) (n r : ℕ) (k : Change) → known_change s n ≡ Some k → r ≤ k.revision → k.revision ≤ r →
-    GoesOn s n r k
+    OthersDecide s n r k
 at_latest s n r k known up down = λ f. rw (known, le-ltb k.revision r up, le-ltb r k.revision down) refl

@@ -21,7 +21,7 @@ use Rattle.gate_types.specs.State.{Item, Queue, State, plan_of, put_by, put_plan
 use Rattle.gate_types.specs.Slot.{is_running}
 use Rattle.gate_types.specs.Sweep.{report_of, without_plans}
 use Rattle.gate_types.specs.Step.{left_queue, is_of_change, landed_plan, leave}
-use Rattle.gate_types.specs.Rows.{item_of, numbered}
+use Rattle.gate_types.specs.Rows.{item_of, numbered_reports}
 use Rattle.gate_types.specs.Once.{Content}
 use Rattle.gate_types.specs.Tables.{change_row, edited_changes, edited_counters, edited_kept, edited_plans}
 use Rattle.gate_types.specs.Tables.{edited_queue, unmark, unmarked}
@@ -38,7 +38,7 @@ use Rattle.gate_laws.proofs.Plans.{plan_there}
 use Rattle.gate_laws.proofs.Rising.{Rising, rising}
 use Rattle.gate_laws.proofs.Alone.{serial_alone, change_alone, name_alone, same_name_of}
 use Rattle.gate_walk.proofs.Leaving.{one_leaves}
-use Rattle.gate_reads.specs.Moves.{Columns, row_by, in_state, Moves}
+use Rattle.gate_reads.specs.Moves.{Columns, row_by_columns, in_state, Moves}
 use Rattle.gate_ruling.specs.Leaving.{stop_of, out_of_queue}
 use Rattle.gate_ruling.proofs.Folded.{shown, shown_after, by_parts, leave_it, moves_on}
 use Rattle.gate_ruling.proofs.Few.{few_reports}
@@ -69,19 +69,19 @@ only_one {X = X} key t (y ∷ ys) x r m h alone = elim m [
 
 -- rows by columns are dropped as their items are
 dropped : (columns : ℕ → Columns) (n : ℕ) (is : List Item) →
-    filter (λ (j : ItemRow). not (j.serial == n)) (map (row_by columns) is)
-    ≡ map (row_by columns) (filter (λ (i : Item). not (i.serial == n)) is)
+    filter (λ (j : ItemRow). not (j.serial == n)) (map (row_by_columns columns) is)
+    ≡ map (row_by_columns columns) (filter (λ (i : Item). not (i.serial == n)) is)
 dropped columns n [] = refl
 dropped columns n (i ∷ is) = by_test (i.serial == n) (dropped columns n is)
   where
-    by_test : (t : Bool) → filter (λ (j : ItemRow). not (j.serial == n)) (map (row_by columns) is)
-        ≡ map (row_by columns) (filter (λ (i : Item). not (i.serial == n)) is) →
-        cond (not t) (row_by columns i ∷ filter (λ (j : ItemRow). not (j.serial == n)) (map (row_by columns) is))
-        (filter (λ (j : ItemRow). not (j.serial == n)) (map (row_by columns) is))
-        ≡ map (row_by columns) (cond (not t) (i ∷ filter (λ (i : Item). not (i.serial == n)) is)
+    by_test : (t : Bool) → filter (λ (j : ItemRow). not (j.serial == n)) (map (row_by_columns columns) is)
+        ≡ map (row_by_columns columns) (filter (λ (i : Item). not (i.serial == n)) is) →
+        cond (not t) (row_by_columns columns i ∷ filter (λ (j : ItemRow). not (j.serial == n)) (map (row_by_columns columns) is))
+        (filter (λ (j : ItemRow). not (j.serial == n)) (map (row_by_columns columns) is))
+        ≡ map (row_by_columns columns) (cond (not t) (i ∷ filter (λ (i : Item). not (i.serial == n)) is)
         (filter (λ (i : Item). not (i.serial == n)) is))
     by_test true h = h
-    by_test false h = ap (λ l. row_by columns i ∷ l) h
+    by_test false h = ap (λ l. row_by_columns columns i ∷ l) h
 
 -- ---- one queue
 
@@ -123,19 +123,19 @@ none_gone c s name row sound h q mq apart =
 reports_left : (c : Settings) (s : State) (name : List ℕ) (row : ItemRow) (v : Verdict) → are_sound c ≡ true →
     IsSound c s → (h : Stored c s name row) → (q : Queue) → In q s.queues → (t : Bool) → same_name name q.name ≡ t →
     cond t (put_by (λ (x : ReportRow). x.place)
-    (record { place = length h.queue.reports + 1; report = report_of v (item_of row) }) (numbered 0 q.reports))
-    (numbered 0 q.reports) ≡ numbered 0 (left_queue v row.change q).reports
+    (record { place = length h.queue.reports + 1; report = report_of v (item_of row) }) (numbered_reports 0 q.reports))
+    (numbered_reports 0 q.reports) ≡ numbered_reports 0 (left_queue v row.change q).reports
 reports_left c s name row v settings sound h q mq true e =
     let one : h.queue ≡ q = name_alone c s settings sound h.queue q h.there mq
     (same_name_of h.queue.name q.name (same_name_is h.queue.name name h.named ∙ same_name_is name q.name e)) in
     let report = report_of v (item_of row) in
     let place = length h.queue.reports + 1 in
-    subst (λ o. put_by (λ (x : ReportRow). x.place) (record { place = place; report = report }) (numbered 0 o.reports)
-    ≡ numbered 0 (left_queue v row.change o).reports) one
+    subst (λ o. put_by (λ (x : ReportRow). x.place) (record { place = place; report = report }) (numbered_reports 0 o.reports)
+    ≡ numbered_reports 0 (left_queue v row.change o).reports) one
     (put_last 0 h.queue.reports report (length h.queue.reports) (omega arith)
-    ∙ ap (λ l. numbered 0 (h.queue.reports ++ map (report_of v) l)) (sym (gone c s name row sound h)))
+    ∙ ap (λ l. numbered_reports 0 (h.queue.reports ++ map (report_of v) l)) (sym (gone c s name row sound h)))
 reports_left c s name row v settings sound h q mq false e =
-    ap (numbered 0) (sym (nothing_more q.reports)
+    ap (numbered_reports 0) (sym (nothing_more q.reports)
     ∙ ap (λ l. q.reports ++ map (report_of v) l) (sym (none_gone c s name row sound h q mq e)))
   where
     nothing_more : (rs : List Report) → rs ++ [] ≡ rs
@@ -148,7 +148,7 @@ queue_left : (c : Settings) (s : State) (k : QueuedItem) (v : Verdict) → are_s
     ≡ shown columns (left_queue v k.item.change q)
 queue_left c s k v settings sound h columns q mq =
     let items = dropped columns k.item.serial q.items
-    ∙ ap (map (row_by columns)) (filter_same (λ (i : Item). not (i.serial == k.item.serial))
+    ∙ ap (map (row_by_columns columns)) (filter_same (λ (i : Item). not (i.serial == k.item.serial))
     (λ i. not (i.change == k.item.change)) q.items
     (λ i mi. ap not (same_test c s k.queue k.item sound h q mq i mi))) in
     let reports = reports_left c s k.queue k.item v settings sound h q mq (same_name k.queue q.name) refl in

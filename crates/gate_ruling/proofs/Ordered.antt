@@ -40,7 +40,7 @@ use Rattle.gate_reads.specs.Touches.{AreFigures, Touches}
 use Rattle.gate_reads.specs.declared.touched.Event.TheVariants as event
 use Rattle.gate_queue_rules.specs.Edits.{window_edits}
 use Rattle.gate_ruling.specs.Guards.{HasOrder}
-use Rattle.gate_ruling.specs.Landing.{landing_of, landing_edits}
+use Rattle.gate_ruling.specs.Landing.{landing_of_row, landing_edits}
 use Rattle.gate_reads.specs.Windows.{bounds_if}
 use Rattle.gate_ruling.proofs.Folded.{shown, shown_after, by_parts}
 use Rattle.gate_ruling.proofs.Stored.{Stored}
@@ -244,13 +244,13 @@ lands c x k settings sound h plans place w at is = by_test (h.queue.window == w)
     window = is ∙ ap (λ m. grow h.queue.window (bounds_named c m).rule) (sym (same_name_is h.queue.name k.queue h.named))
 
     put : Edit
-    put = edit.PutLanding k.queue place (landing_of k.item)
+    put = edit.PutLanding k.queue place (landing_of_row k.item)
 
     new : List LandingRow → List LandingRow
-    new ls = put_by (λ (y : LandingRow). y.place) (record { place = place; landing = landing_of k.item }) ls
+    new ls = put_by (λ (y : LandingRow). y.place) (record { place = place; landing = landing_of_row k.item }) ls
 
-    rows : new (numbered_landings 0 h.queue.landings) ≡ numbered_landings 0 (h.queue.landings ++ landing_of k.item ∷ [])
-    rows = last_row h.queue (landing_of k.item) place at
+    rows : new (numbered_landings 0 h.queue.landings) ≡ numbered_landings 0 (h.queue.landings ++ landing_of_row k.item ∷ [])
+    rows = last_row h.queue (landing_of_row k.item) place at
 
     there : same_name k.queue h.queue.name ≡ true
     there = turned h.queue.name k.queue true h.named

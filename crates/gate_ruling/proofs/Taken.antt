@@ -20,7 +20,7 @@ use Rattle.gate_types.specs.Rising.{In}
 use Rattle.gate_laws.proofs.Members.{every}
 use Rattle.gate_laws.proofs.Chosen.{chosen}
 use Rattle.gate_reads.specs.Moves.{Moves}
-use Rattle.gate_reads.specs.NextBuild.{with_number}
+use Rattle.gate_reads.specs.NextBuild.{under_number}
 use Rattle.gate_ruling.proofs.Folded.{by_parts}
 
 -- the choice has the next number
@@ -28,21 +28,21 @@ next_number : (c : Settings) (s : State) (b : Build) → choose c s ≡ Some b �
 next_number c s b h = ap (λ (x : Build). x.number) (sym (chosen c s b h).same)
 
 -- a build that was found under the next number is the choice
-pub choice : (c : Settings) (s : State) (n : ℕ) (b : Build) → Some b ≡ option_map (with_number n) (choose c s) →
+pub choice : (c : Settings) (s : State) (n : ℕ) (b : Build) → Some b ≡ option_map (under_number n) (choose c s) →
     n ≡ s.counters.build + 1 → choose c s ≡ Some b
 choice c s n b h e = by_choice (choose c s) refl h
   where
-    by_choice : (o : Option Build) → choose c s ≡ o → Some b ≡ option_map (with_number n) o → o ≡ Some b
+    by_choice : (o : Option Build) → choose c s ≡ o → Some b ≡ option_map (under_number n) o → o ≡ Some b
     by_choice None f g = absurd (none-some b (sym g))
     by_choice (Some a) f g =
         (λ i. Some (record a { number = (next_number c s a f ∙ sym e) i })) ∙ sym g
 
 -- under whatever number it was found, there is a choice
-pub some_choice : (c : Settings) (s : State) (n : ℕ) (b : Build) → Some b ≡ option_map (with_number n) (choose c s) →
+pub some_choice : (c : Settings) (s : State) (n : ℕ) (b : Build) → Some b ≡ option_map (under_number n) (choose c s) →
     (a : Build) × (choose c s ≡ Some a) × (a.number ≡ s.counters.build + 1)
 some_choice c s n b h = by_choice (choose c s) refl h
   where
-    by_choice : (o : Option Build) → choose c s ≡ o → Some b ≡ option_map (with_number n) o →
+    by_choice : (o : Option Build) → choose c s ≡ o → Some b ≡ option_map (under_number n) o →
         (a : Build) × (choose c s ≡ Some a) × (a.number ≡ s.counters.build + 1)
     by_choice None f g = absurd (none-some b (sym g))
     by_choice (Some a) f g = (a, f, next_number c s a f)

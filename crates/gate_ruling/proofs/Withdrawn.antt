@@ -12,7 +12,7 @@ use Rattle.gate_types.specs.Admit.{without_ready}
 use Rattle.gate_types.specs.SubmitOrder.{is_submitting}
 use Rattle.gate_types.specs.Step.{Stepped, raw_withdrawn, accepted, refused, leave}
 use Rattle.gate_laws.proofs.RecordedChange.{known_number}
-use Rattle.gate_ruling.specs.Guards.{GoesOn}
+use Rattle.gate_ruling.specs.Guards.{OthersDecide}
 use Rattle.gate_ruling.proofs.Put.{put_known}
 
 -- the lines on a change at its latest revision
@@ -22,21 +22,21 @@ withdrawing c s n k =
     if is_queued s n then accepted reply.Removed (leave verdict.Withdrawn n s) else (
     if is_ready s n then accepted reply.Recorded (without_ready n s) else accepted reply.Stale s))
 
-pub submitting_raw : (c : Settings) (s : State) (n r : ℕ) (k : Change) → GoesOn s n r k →
+pub submitting_raw : (c : Settings) (s : State) (n r : ℕ) (k : Change) → OthersDecide s n r k →
     is_submitting c s n ≡ true → raw_withdrawn c s n r ≡ refused refusal.Submitting
 submitting_raw c s n r k goes shown = goes (withdrawing c s n) ∙ rw shown refl
 
-pub removed_raw : (c : Settings) (s : State) (n r : ℕ) (k : Change) → GoesOn s n r k →
+pub removed_raw : (c : Settings) (s : State) (n r : ℕ) (k : Change) → OthersDecide s n r k →
     is_submitting c s n ≡ false → is_queued s n ≡ true →
     raw_withdrawn c s n r ≡ accepted reply.Removed (leave verdict.Withdrawn n s)
 removed_raw c s n r k goes free queued = goes (withdrawing c s n) ∙ rw (free, queued) refl
 
-pub recorded_raw : (c : Settings) (s : State) (n r : ℕ) (k : Change) → GoesOn s n r k →
+pub recorded_raw : (c : Settings) (s : State) (n r : ℕ) (k : Change) → OthersDecide s n r k →
     is_submitting c s n ≡ false → is_queued s n ≡ false → is_ready s n ≡ true →
     raw_withdrawn c s n r ≡ accepted reply.Recorded (without_ready n s)
 recorded_raw c s n r k goes free queued ready = goes (withdrawing c s n) ∙ rw (free, queued, ready) refl
 
-pub nowhere_raw : (c : Settings) (s : State) (n r : ℕ) (k : Change) → GoesOn s n r k →
+pub nowhere_raw : (c : Settings) (s : State) (n r : ℕ) (k : Change) → OthersDecide s n r k →
     is_submitting c s n ≡ false → is_queued s n ≡ false → is_ready s n ≡ false →
     raw_withdrawn c s n r ≡ accepted reply.Stale s
 nowhere_raw c s n r k goes free queued ready = goes (withdrawing c s n) ∙ rw (free, queued, ready) refl

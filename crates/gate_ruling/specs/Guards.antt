@@ -20,12 +20,12 @@ abbrev pub unless_past : State → ℕ → (Change → Stepped) → Change → S
 unless_past s r f k = if nat_lt r k.revision then accepted reply.Stale s else f k
 
 -- of this change the other lines decide, whatever they say
-abbrev pub GoesOn : State → ℕ → ℕ → Change → Type 0
-GoesOn s n r k = (f : Change → Stepped) → on_known s n r (unless_past s r f) ≡ f k
+abbrev pub OthersDecide : State → ℕ → ℕ → Change → Type 0
+OthersDecide s n r k = (f : Change → Stepped) → on_known s n r (unless_past s r f) ≡ f k
 
 -- this is the change of a number at its latest revision; or it is what each delivery of these lines comes to
 abbrev pub IsLatest : Settings → Content → ℕ → ℕ → Result Change Raw → Type 0
-IsLatest c x n r (Ok k) = (known_change x.state n ≡ Some k) × GoesOn x.state n r k
+IsLatest c x n r (Ok k) = (known_change x.state n ≡ Some k) × OthersDecide x.state n r k
 IsLatest c x n r (Err raw) =
     (f : Change → Stepped) (d : Delivery) →
     raw_step c x.state d ≡ on_known x.state n r (unless_past x.state r f) → IsRaw c x d raw

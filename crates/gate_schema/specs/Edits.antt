@@ -118,13 +118,13 @@ abbrev pub add_kept : Kept → Stored → Stored
 add_kept x b = record b { kept = b.kept ++ x ∷ [] }
 
 -- a queue with another window
-abbrev pub with_window : ℕ → QueueRow → QueueRow
-with_window w q = record q { window = w }
+abbrev pub at_window : ℕ → QueueRow → QueueRow
+at_window w q = record q { window = w }
 
 -- the window of a queue set
 abbrev pub set_window : List ℕ → ℕ → Stored → Stored
 set_window name w b =
-    record b { queues = map (λ (q : QueueRow). if same_name q.name name then with_window w q else q) b.queues }
+    record b { queues = map (λ (q : QueueRow). if same_name q.name name then at_window w q else q) b.queues }
 
 -- a counter set
 abbrev pub draw : Counter → ℕ → Stored → Stored

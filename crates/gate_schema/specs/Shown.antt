@@ -26,5 +26,5 @@ abbrev pub need_shown : NeedRow → Row
 need_shown n = Int (pos n.needed) ∷ []
 
 -- among these needs, a change needs another
-abbrev pub needs_it : List NeedRow → ℕ → ℕ → Bool
-needs_it needs needed number = list_any (λ n. n.change == number && n.needed == needed) needs
+abbrev pub needs_among : List NeedRow → ℕ → ℕ → Bool
+needs_among needs needed number = list_any (λ n. n.change == number && n.needed == needed) needs

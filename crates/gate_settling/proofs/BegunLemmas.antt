@@ -22,7 +22,7 @@ use Rattle.gate_types.specs.Forms.{are_counters_in_form}
 use Rattle.gate_types.proofs.NameLemmas.{same_name_is}
 use Rattle.gate_walk.specs.declared.walk.QueueFacts.{QueueFacts}
 use Rattle.gate_walk.specs.declared.walk.Touched.{Touched}
-use Rattle.gate_walk.specs.Rescan.{TakenOut, start, fails_at}
+use Rattle.gate_walk.specs.Rescan.{TakenOut, walk_start, fails_at}
 use Rattle.gate_walk.specs.TakenOut.{out_of}
 use Rattle.gate_walk.specs.Delivery.{touch_of, out_by}
 use Rattle.gate_walk.specs.UnderWay.{IsFor, queue_after}
@@ -176,5 +176,5 @@ is_for {c = c} {x = x} {k = k} h facts touched set window reports serial ahead o
       name = same_name_is facts.settings.now.name k.queue there.1 ∙ sym named;
       bounds = bounds;
       serial = serial;
-      begins = λ t. start (outs t) (aheads t) (many t) (windows t);
+      begins = λ t. walk_start (outs t) (aheads t) (many t) (windows t);
     }

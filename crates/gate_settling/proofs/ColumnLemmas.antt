@@ -18,7 +18,7 @@ use Rattle.gate_types.specs.Once.{Content}
 use Rattle.gate_types.specs.Tables.{tables, queue_rows}
 use Rattle.gate_types.specs.Rising.{In}
 use Rattle.gate_laws.specs.Touch.{touched_by, is_other}
-use Rattle.gate_reads.specs.Moves.{Columns, columns_at, row_by, swept, tables_by}
+use Rattle.gate_reads.specs.Moves.{Columns, columns_at, row_by_columns, swept, tables_by}
 use Rattle.gate_laws.proofs.Members.{from_map, to_map, to_flat, found, not_found, contains_in, in_contains}
 use Rattle.gate_laws.proofs.Counts.{one_of}
 use Rattle.gate_laws.proofs.Alone.{name_alone, same_name_of}
@@ -36,7 +36,7 @@ columns_of c s n =
 
 -- the rows of a queue's items are those by these columns
 abbrev pub HasColumns : Settings → State → (ℕ → Columns) → Queue → Type 0
-HasColumns c s cols q = item_rows c s q ≡ map (row_by cols) q.items
+HasColumns c s cols q = item_rows c s q ≡ map (row_by_columns cols) q.items
 
 -- ---- columns by serial
 
@@ -61,7 +61,7 @@ place_found c s sound p m = found_alone place_serial (all_places c s) p m
 -- the rows of places among all places
 rows_found : (c : Settings) (s : State) (q : Queue) → IsSound c s → (ahead is : List Item) →
     ((p : Place) → In p (places_after s.builds ahead (map (place_of c s q) is)) → In p (all_places c s)) →
-    map (row_of s.builds) (places_after s.builds ahead (map (place_of c s q) is)) ≡ map (row_by (columns_of c s)) is
+    map (row_of s.builds) (places_after s.builds ahead (map (place_of c s q) is)) ≡ map (row_by_columns (columns_of c s)) is
 rows_found c s q sound ahead [] h = refl
 rows_found c s q sound ahead (i ∷ is) h =
     let p = with_ahead ahead (place_of c s q i) in
@@ -86,7 +86,7 @@ columns_found c s sound q m =
 
 queues_by : (c : Settings) (s : State) (cols : ℕ → Columns) (qs : List Queue) →
     ((q : Queue) → In q qs → HasColumns c s cols q) →
-    map (λ q. queue_rows (item_rows c s q) q) qs ≡ map (λ (q : Queue). queue_rows (map (row_by cols) q.items) q) qs
+    map (λ q. queue_rows (item_rows c s q) q) qs ≡ map (λ (q : Queue). queue_rows (map (row_by_columns cols) q.items) q) qs
 queues_by c s cols [] h = refl
 queues_by c s cols (q ∷ qs) h =
     λ i. queue_rows (h q (inl refl) i) q ∷ queues_by c s cols qs (λ o m. h o (inr m)) i

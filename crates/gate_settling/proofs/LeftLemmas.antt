@@ -23,10 +23,10 @@ use Rattle.gate_types.specs.Step.{left_queue, end_build}
 use Rattle.gate_types.specs.Window.{grow, bounds_of}
 use Rattle.gate_types.specs.Rows.{item_of, item_rows}
 use Rattle.gate_laws.specs.Touch.{has_serial}
-use Rattle.gate_walk.specs.Rescan.{HasLeft, HasLanded, live_under, place_behind, without_row}
+use Rattle.gate_walk.specs.Rescan.{HasLeft, HasLanded, live_under, place_after_landing, without_row}
 use Rattle.gate_walk.specs.Kinds.{IsIn}
 use Rattle.gate_walk.specs.Delivery.{Touch, build_ended, item_left, item_landed, moved, touch_of, standing_rows}
-use Rattle.gate_reads.specs.Moves.{Columns, row_by}
+use Rattle.gate_reads.specs.Moves.{Columns, row_by_columns}
 use Rattle.gate_reads.specs.Touches.{event_of}
 use Rattle.gate_reads.specs.Windows.{window_now}
 use Rattle.gate_reads.specs.declared.touched.TouchedItem.{TouchedItem}
@@ -56,7 +56,7 @@ reports_now e n = if is_out e then n + 1 else n
 
 -- what is left: the rows of the items that stand, with what a visit sees of each; the reports; the window
 pub record Left (c : Settings) (s t : State) (k : Touch) (q o : Queue) (i : Item) (e : Event) : Type 0 where
-  pub rows : standing_rows k i (item_rows c s q) ≡ map (row_by (columns_of c s)) o.items
+  pub rows : standing_rows k i (item_rows c s q) ≡ map (row_by_columns (columns_of c s)) o.items
   pub fewer : (j : Item) → In j o.items → In j q.items
   pub needs : (j : Item) → In j o.items → needs_of t j.change ≡ map (need_after e i.change) (needs_of s j.change)
   pub jobs : (j : Item) → In j o.items → (plan_of t j.serial).jobs ≡ (plan_of s j.serial).jobs
@@ -96,19 +96,19 @@ apart is js i r =
 -- the rows without that of the item
 rows_left : (cols : ℕ → Columns) (is js : List Item) (i : Item) →
     ((j : Item) → In j is → j.serial == i.serial ≡ false) → ((j : Item) → In j js → j.serial == i.serial ≡ false) →
-    without_row i.serial (map (row_by cols) (is ++ i ∷ js)) ≡ map (row_by cols) (is ++ js)
+    without_row i.serial (map (row_by_columns cols) (is ++ i ∷ js)) ≡ map (row_by_columns cols) (is ++ js)
 rows_left cols is js i before behind =
     let test : ItemRow → Bool = λ r. not (r.serial == i.serial) in
-    let rest = filter test (map (row_by cols) js) in
+    let rest = filter test (map (row_by_columns cols) js) in
     let none : (ks : List Item) → ((j : Item) → In j ks → j.serial == i.serial ≡ false) →
     has_serial ks i.serial ≡ false =
     none_to (λ (j : Item). j.serial == i.serial) in
-    ap (filter test) (map-append (row_by cols) is (i ∷ js))
-    ∙ filter-append test (map (row_by cols) is) (row_by cols i ∷ map (row_by cols) js)
+    ap (filter test) (map-append (row_by_columns cols) is (i ∷ js))
+    ∙ filter-append test (map (row_by_columns cols) is) (row_by_columns cols i ∷ map (row_by_columns cols) js)
     ∙ (λ k. no_drop cols i.serial is (none is before) k
-    ++ cond (not (eq-eqb i.serial i.serial refl k)) (row_by cols i ∷ rest) rest)
-    ∙ ap (λ l. map (row_by cols) is ++ l) (no_drop cols i.serial js (none js behind))
-    ∙ sym (map-append (row_by cols) is js)
+    ++ cond (not (eq-eqb i.serial i.serial refl k)) (row_by_columns cols i ∷ rest) rest)
+    ∙ ap (λ l. map (row_by_columns cols) is ++ l) (no_drop cols i.serial js (none js behind))
+    ∙ sym (map-append (row_by_columns cols) is js)
 
 -- ---- reports
 
@@ -142,10 +142,10 @@ is_apart c s q is i js h =
     record { there = m; before = both.0; behind = both.1 }
 
 rows_out : (c : Settings) (s : State) (q : Queue) (is : List Item) (i : Item) (js : List Item) → IsIn c s q is i js →
-    without_row i.serial (item_rows c s q) ≡ map (row_by (columns_of c s)) (is ++ js)
+    without_row i.serial (item_rows c s q) ≡ map (row_by_columns (columns_of c s)) (is ++ js)
 rows_out c s q is i js h =
     let a = is_apart c s q is i js h in
-    ap (without_row i.serial) (columns_found c s h.sound q a.there ∙ ap (map (row_by (columns_of c s))) h.items)
+    ap (without_row i.serial) (columns_found c s h.sound q a.there ∙ ap (map (row_by_columns (columns_of c s))) h.items)
     ∙ rows_left (columns_of c s) is js i a.before a.behind
 
 others_in : (q : Queue) (is : List Item) (i : Item) (js : List Item) → q.items ≡ is ++ i ∷ js → (j : Item) →
@@ -185,7 +185,7 @@ left_out c s t q o is i js v h l reports window name =
     let inside : (j : Item) → In j o.items → In j (is ++ js) = λ j m. subst (In j) l.items m in
     let place = each_same (place_of c t o) (place_of c s q) (is ++ js) l.places in
     record {
-      rows = rows_out c s q is i js h ∙ ap (map (row_by (columns_of c s))) (sym l.items);
+      rows = rows_out c s q is i js h ∙ ap (map (row_by_columns (columns_of c s))) (sym l.items);
       fewer = λ j m. others_in q is i js h.items j (inside j m);
       needs = λ j m. ap (λ (p : Place). p.needs) (place j (inside j m))
           ∙ needs_same (event.Left v) i.change refl (needs_of s j.change);
@@ -205,10 +205,10 @@ landed_out : (c : Settings) (s t : State) (q o : Queue) (is : List Item) (i : It
     Left c s t item_landed q o i event.Landed
 landed_out c s t q o is i js h l reports window name =
     let inside : (j : Item) → In j o.items → In j (is ++ js) = λ j m. subst (In j) l.items m in
-    let place = each_same (place_of c t o) (λ j. place_behind i (place_of c s q j)) (is ++ js)
-    (l.places ∙ map_map (place_behind i) (place_of c s q) (is ++ js)) in
+    let place = each_same (place_of c t o) (λ j. place_after_landing i (place_of c s q j)) (is ++ js)
+    (l.places ∙ map_map (place_after_landing i) (place_of c s q) (is ++ js)) in
     record {
-      rows = rows_out c s q is i js h ∙ ap (map (row_by (columns_of c s))) (sym l.items);
+      rows = rows_out c s q is i js h ∙ ap (map (row_by_columns (columns_of c s))) (sym l.items);
       fewer = λ j m. others_in q is i js h.items j (inside j m);
       needs = λ j m. ap (λ (p : Place). p.needs) (place j (inside j m));
       jobs = λ j m. ap (λ (p : Place). p.jobs) (place j (inside j m));

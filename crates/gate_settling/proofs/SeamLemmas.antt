@@ -26,7 +26,7 @@ use Rattle.gate_types.proofs.NameLemmas.{same_name_is}
 use Rattle.gate_laws.specs.Touch.{has_serial, rebase_one, settle_one}
 use Rattle.gate_queue_rules.specs.Settled.{swept_of, rows_in}
 use Rattle.gate_walk.specs.Rescan.{rows_with}
-use Rattle.gate_reads.specs.Moves.{Columns, row_by, tables_by, swept, in_state, Moves}
+use Rattle.gate_reads.specs.Moves.{Columns, row_by_columns, tables_by, swept, in_state, Moves}
 use Rattle.gate_laws.proofs.Members.{map_map}
 use Rattle.gate_laws.proofs.Elements.{rest_of}
 use Rattle.gate_laws.proofs.TableParts.{all_parts}
@@ -126,13 +126,13 @@ off queue name other own not_it = by_test (same_name queue other) refl
     by_test false e = refl
 
 pub no_drop : (cols : ℕ → Columns) (n : ℕ) (is : List Item) → has_serial is n ≡ false →
-    filter (λ (j : ItemRow). not (j.serial == n)) (map (row_by cols) is) ≡ map (row_by cols) is
+    filter (λ (j : ItemRow). not (j.serial == n)) (map (row_by_columns cols) is) ≡ map (row_by_columns cols) is
 no_drop cols n [] h = refl
 no_drop cols n (i ∷ is) h =
     let both = or_parts (i.serial == n) (has_serial is n) h in
-    let rest = filter (λ (j : ItemRow). not (j.serial == n)) (map (row_by cols) is) in
-    ap (λ t. cond (not t) (row_by cols i ∷ rest) rest) both.0
-    ∙ ap (λ l. row_by cols i ∷ l) (no_drop cols n is both.1)
+    let rest = filter (λ (j : ItemRow). not (j.serial == n)) (map (row_by_columns cols) is) in
+    ap (λ t. cond (not t) (row_by_columns cols i ∷ rest) rest) both.0
+    ∙ ap (λ l. row_by_columns cols i ∷ l) (no_drop cols n is both.1)
 
 not_there : (t s : Bool) → t ≡ false → t || not s ≡ true → s ≡ false
 not_there true s e h = absurd (true≢false e)
@@ -142,7 +142,7 @@ not_there false false e h = refl
 -- an own edit leaves the rows of a queue of another name
 other_stays : (o : Queue) (qs : List Queue) (name : List ℕ) (cols : ℕ → Columns) → same_name o.name name ≡ false →
     (e : Edit) → is_own (o ∷ qs) name e ≡ true →
-    edited_queue e (queue_rows (map (row_by cols) o.items) o) ≡ queue_rows (map (row_by cols) o.items) o
+    edited_queue e (queue_rows (map (row_by_columns cols) o.items) o) ≡ queue_rows (map (row_by_columns cols) o.items) o
 other_stays o qs name cols apart (edit.PutItem queue i) h = rw (off queue name o.name h apart) refl
 other_stays o qs name cols apart (edit.DropItem n) h =
     let both = and_parts (same_name o.name name || not (has_serial o.items n)) _ h in
@@ -194,7 +194,7 @@ one_of c t name q =
 -- the edits settle the rows of the queue of this name, by these columns
 abbrev pub SettlesRows : Settings → State → List ℕ → (ℕ → Columns) → List Edit → Queue → Type 0
 SettlesRows c t name cols es q = same_name q.name name ≡ true →
-    fold_edits (rows_with q (map (row_by cols) q.items) t.builds) es ≡ rows_in c (swept c t) (swept_of c t q)
+    fold_edits (rows_with q (map (row_by_columns cols) q.items) t.builds) es ≡ rows_in c (swept c t) (swept_of c t q)
 
 -- the columns of a queue of another name stay
 abbrev pub OthersStay : Settings → State → List ℕ → (ℕ → Columns) → Queue → Type 0
@@ -202,7 +202,7 @@ OthersStay c t name cols q = same_name q.name name ≡ false → HasColumns c (s
 
 -- what edits make of a queue's rows, by these columns
 abbrev edited_by : (ℕ → Columns) → List Edit → Queue → QueueRows
-edited_by cols es q = fold (λ r e. edited_queue e r) (queue_rows (map (row_by cols) q.items) q) es
+edited_by cols es q = fold (λ r e. edited_queue e r) (queue_rows (map (row_by_columns cols) q.items) q) es
 
 -- the rows of a queue once all is settled
 abbrev settled_by : Settings → State → Queue → QueueRows
@@ -211,11 +211,11 @@ settled_by c t q = queue_rows (item_rows c (swept c t) (swept_of c t q)) (swept_
 -- the queue of the name
 own_done : (c : Settings) (t : State) (cols : ℕ → Columns) (name : List ℕ) (es : List Edit) (q : Queue)
     (qs : List Queue) → AllPass (is_own qs name) es →
-    fold_edits (rows_with q (map (row_by cols) q.items) t.builds) es ≡ rows_in c (swept c t) (swept_of c t q) →
+    fold_edits (rows_with q (map (row_by_columns cols) q.items) t.builds) es ≡ rows_in c (swept c t) (swept_of c t q) →
     edited_by cols es q ≡ settled_by c t q
 own_done c t cols name es q qs all rows =
-    let start = queue_rows (map (row_by cols) q.items) q in
-    let parts = sym (row_parts (rows_with q (map (row_by cols) q.items) t.builds) es) ∙ rows in
+    let start = queue_rows (map (row_by_columns cols) q.items) q in
+    let parts = sym (row_parts (rows_with q (map (row_by_columns cols) q.items) t.builds) es) ∙ rows in
     let landings = leave_it (edited_landings q.name) (is_own qs name) start.landings
     (landings_stay qs name q.name start.landings) es all in
     queue_parts start es ∙ (λ i. record {
@@ -231,9 +231,9 @@ other_done : (c : Settings) (t : State) (cols : ℕ → Columns) (name : List �
     (qs : List Queue) → AllPass (is_own (q ∷ qs) name) es → same_name q.name name ≡ false → swept_of c t q ≡ q →
     HasColumns c (swept c t) cols (swept_of c t q) → edited_by cols es q ≡ settled_by c t q
 other_done c t cols name es q qs all apart alone right =
-    leave_it (λ r e. edited_queue e r) (is_own (q ∷ qs) name) (queue_rows (map (row_by cols) q.items) q)
+    leave_it (λ r e. edited_queue e r) (is_own (q ∷ qs) name) (queue_rows (map (row_by_columns cols) q.items) q)
     (other_stays q qs name cols apart) es all
-    ∙ ap (λ (o : Queue). queue_rows (map (row_by cols) o.items) o) (sym alone)
+    ∙ ap (λ (o : Queue). queue_rows (map (row_by_columns cols) o.items) o) (sym alone)
     ∙ ap (λ l. queue_rows l (swept_of c t q)) (sym right)
 
 queues_done : (c : Settings) (t : State) (cols : ℕ → Columns) (name : List ℕ) (es : List Edit) (qs : List Queue) →
@@ -277,7 +277,7 @@ settled_queue_leads c x t name raw edits found moves k =
     let kept = leave_it edited_kept own x.kept (kept_stay t.queues name x.kept) edits k.own in
     let builds = same_builds t.queues name name t.builds edits k.own ∙ k.builds in
     let queues = map_map (λ (q : QueueRows). fold (λ r e. edited_queue e r) q edits)
-    (λ (q : Queue). queue_rows (map (row_by cols) q.items) q) t.queues
+    (λ (q : Queue). queue_rows (map (row_by_columns cols) q.items) q) t.queues
     ∙ queues_done c t cols name edits t.queues k.own k.rows k.others (ap (λ (s : State). s.queues) k.alone)
     ∙ sym (map_map (λ (q : Queue). queue_rows (item_rows c v q) q) (swept_of c t) t.queues) in
     fold-append edited_tables (tables c x) raw edits

@@ -21,7 +21,7 @@ use Rattle.gate_walk.specs.Delivery.{moved}
 use Rattle.gate_walk.specs.UnderWay.{stale_rows}
 use Rattle.gate_book_trait.specs.Reads.{queued_items, queued_of, live_builds}
 use Rattle.gate_book_trait.specs.declared.rows.QueuedItem.{QueuedItem}
-use Rattle.gate_reads.specs.Moves.{row_by}
+use Rattle.gate_reads.specs.Moves.{row_by_columns}
 use Rattle.gate_reads.specs.declared.touched.TouchedItem.{TouchedItem}
 use Rattle.gate_laws.proofs.Members.{from_map, to_map, map_map, map_same, from_flat, to_flat, found, not_found}
 use Rattle.gate_laws.proofs.Alone.{change_alone, name_alone, same_name_of}
@@ -64,7 +64,7 @@ record Source (c : Settings) (s : State) (p : QueuedItem) : Type 0 where
   stored : In row (item_rows c s queue)
   item : Item
   inside : In item queue.items
-  row_is : row_by (columns_of c s) item ≡ row
+  row_is : row_by_columns (columns_of c s) item ≡ row
   is : queued queue row ≡ p
 
 source : {c : Settings} {x : Content} {k : TouchedItem} (h : Touching c x k) (p : QueuedItem) →
@@ -73,7 +73,7 @@ source {c = c} {x = x} h p m =
     let s = x.state in
     let a = from_flat (λ (q : Queue). map (queued q) (item_rows c s q)) s.queues p m in
     let b = from_map (queued a.0) (item_rows c s a.0) p a.2 in
-    let i = from_map (row_by (columns_of c s)) a.0.items b.0
+    let i = from_map (row_by_columns (columns_of c s)) a.0.items b.0
     (subst (In b.0) (columns_found c s h.lawful.lawful.sound a.0 a.1) b.1) in
     record { queue = a.0; there = a.1; row = b.0; stored = b.1; item = i.0; inside = i.1; row_is = i.2; is = b.2 }
 
@@ -89,7 +89,7 @@ change_queued {c = c} {x = x} h p o mp mo e =
     ∙ sym (ap (λ (r : ItemRow). r.change) b.row_is ∙ ap queued_change b.is) in
     let sound = h.lawful.lawful.sound in
     let one = change_alone c s sound a.queue b.queue a.item b.item a.there b.there a.inside b.inside same in
-    sym a.is ∙ (λ t. queued (one.0 t) (sym a.row_is t)) ∙ (λ t. queued b.queue (row_by (columns_of c s) (one.1 t)))
+    sym a.is ∙ (λ t. queued (one.0 t) (sym a.row_is t)) ∙ (λ t. queued b.queue (row_by_columns (columns_of c s) (one.1 t)))
     ∙ (λ t. queued b.queue (b.row_is t)) ∙ b.is
 
 queued_there : {c : Settings} {x : Content} {k : TouchedItem} (h : Touching c x k) (r : ItemRow) →
@@ -168,7 +168,7 @@ row_now c s k r = record {
 
 item_seen : {c : Settings} {x : Content} {k : TouchedItem} (h : Touching c x k) (j : Item) →
     In j (moved c h.delivery h.queue (item_of k.item)).items →
-    row_now c x.state k (row_by (columns_of c x.state) j) ≡ sees h (row_by (columns_of c x.state) j)
+    row_now c x.state k (row_by_columns (columns_of c x.state) j) ≡ sees h (row_by_columns (columns_of c x.state) j)
 item_seen {c = c} {x = x} {k = k} h j m =
     let s = x.state in
     let rows = stale_rows (delivered h) in
@@ -186,11 +186,11 @@ item_seen {c = c} {x = x} {k = k} h j m =
     let jobs = sym (l.jobs j m) in
     let fast = sym (l.fast j m) in
     let builds = sym (l.builds j m) in
-    λ t. record { row = row_by (columns_of c s) j; needs = needs t; jobs = jobs t; fast = fast t; builds = builds t }
+    λ t. record { row = row_by_columns (columns_of c s) j; needs = needs t; jobs = jobs t; fast = fast t; builds = builds t }
 
 pub seen_now : {c : Settings} {x : Content} {k : TouchedItem} (h : Touching c x k) (r : ItemRow) →
     In r (stale_rows (delivered h)) → row_now c x.state k r ≡ sees h r
 seen_now {c = c} {x = x} {k = k} h r m =
-    let j = from_map (row_by (columns_of c x.state)) (moved c h.delivery h.queue (item_of k.item)).items r
+    let j = from_map (row_by_columns (columns_of c x.state)) (moved c h.delivery h.queue (item_of k.item)).items r
     (subst (In r) (left h).rows m) in
     subst (λ y. row_now c x.state k y ≡ sees h y) j.2 (item_seen h j.0 j.1)

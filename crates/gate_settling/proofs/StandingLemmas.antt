@@ -22,7 +22,7 @@ use Rattle.gate_types.proofs.NameLemmas.{same_name_is}
 use Rattle.gate_walk.specs.Delivery.{touch_of, standing_rows}
 use Rattle.gate_walk.specs.UnderWay.{stale_rows}
 use Rattle.gate_book_trait.specs.Reads.{queue_named, items_in}
-use Rattle.gate_reads.specs.Moves.{row_by}
+use Rattle.gate_reads.specs.Moves.{row_by_columns}
 use Rattle.gate_reads.specs.Touches.{event_of}
 use Rattle.gate_reads.specs.declared.touched.Event.{Event}
 use Rattle.gate_reads.specs.declared.touched.TouchedItem.{TouchedItem}
@@ -98,8 +98,8 @@ serial_is_drawn {k = k} h = item_from_1 h (item_of k.item) (item_there h)
 
 -- a row is that of an item
 pub row_item : {c : Settings} {x : Content} {k : TouchedItem} (h : Touching c x k) (r : ItemRow) →
-    In r (item_rows c x.state h.queue) → (j : Item) × In j h.queue.items × (row_by (columns_of c x.state) j ≡ r)
-row_item {c = c} {x = x} h r m = from_map (row_by (columns_of c x.state)) h.queue.items r
+    In r (item_rows c x.state h.queue) → (j : Item) × In j h.queue.items × (row_by_columns (columns_of c x.state) j ≡ r)
+row_item {c = c} {x = x} h r m = from_map (row_by_columns (columns_of c x.state)) h.queue.items r
     (subst (In r) (columns_found c x.state h.lawful.lawful.sound h.queue (queue_there h)) m)
 
 -- no two rows have one serial, or one change
@@ -111,7 +111,7 @@ serial_row {c = c} {x = x} h r o mr mo e =
     let there = queue_there h in
     let one = serial_alone c x.state h.lawful.lawful.sound h.queue h.queue a.0 b.0 there there a.1 b.1
     (ap (λ (y : ItemRow). y.serial) a.2 ∙ e ∙ sym (ap (λ (y : ItemRow). y.serial) b.2)) in
-    sym a.2 ∙ ap (row_by (columns_of c x.state)) one.1 ∙ b.2
+    sym a.2 ∙ ap (row_by_columns (columns_of c x.state)) one.1 ∙ b.2
 
 -- the row of the touched item is found by its serial
 pub touched_row : {c : Settings} {x : Content} {k : TouchedItem} (h : Touching c x k) →

@@ -16,7 +16,7 @@ use Rattle.gate_types.specs.Forms.{IsLawfulContent}
 use Rattle.gate_types.specs.Tables.{tables, fold_all, Leads}
 use Rattle.gate_types.specs.Rising.{In}
 use Rattle.gate_laws.specs.Touch.{touched_by, is_stale}
-use Rattle.gate_reads.specs.Moves.{row_by, tables_by, swept, in_state, Moves}
+use Rattle.gate_reads.specs.Moves.{row_by_columns, tables_by, swept, in_state, Moves}
 use Rattle.gate_reads.specs.Touches.{IsTouched}
 use Rattle.gate_reads.specs.declared.touched.TouchedItem.{TouchedItem}
 use Rattle.gate_laws.proofs.Members.{from_map, to_right, in_split, contains_in}
@@ -42,7 +42,7 @@ touching c x d r t k w lawful e acts touches =
     let named = queue_of_name c s k.queue q w sound there a.named in
     let stored = subst (λ rows. Contains rows k.item) (ap (λ o. option_map_or (item_rows c s) o []) named)
     touches.there in
-    let j = from_map (row_by (columns_of c s)) q.items k.item
+    let j = from_map (row_by_columns (columns_of c s)) q.items k.item
     (subst (In k.item) (columns_found c s sound q there) (contains_in (item_rows c s q) k.item stored)) in
     let inside = subst (λ i. In i q.items) (ap item_of j.2) j.1 in
     let split = in_split q.items (item_of k.item) inside in (

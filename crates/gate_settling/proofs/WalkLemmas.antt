@@ -31,7 +31,7 @@ use Rattle.gate_walk.specs.Walk.{Seen, Carry, Walk, is_same_row, row_by as row_o
 use Rattle.gate_walk.specs.Walk.{stopped_by, window_edits_by, visit_edits}
 use Rattle.gate_walk.specs.Rescan.{rows_with}
 use Rattle.gate_walk.specs.UnderWay.{Delivered, queue_after, stale_rows, rows_seen, walk_by, next_by, AreWanted}
-use Rattle.gate_reads.specs.Moves.{Columns, row_by, swept}
+use Rattle.gate_reads.specs.Moves.{Columns, row_by_columns, swept}
 use Rattle.gate_reads.specs.declared.touched.TouchedItem.{TouchedItem}
 use Rattle.gate_laws.proofs.Members.{every, from_map, to_map, from_flat, any_from, any_to, all_to, contains_in}
 use Rattle.gate_laws.proofs.Counts.{distinct_from}
@@ -44,7 +44,7 @@ use Rattle.gate_laws.proofs.Touches.{serials_apart, name_itself}
 use Rattle.gate_laws.proofs.RunIsLawful.{raw_step_is_sound}
 use Rattle.gate_laws.proofs.OnlyOneQueueIsTouched.{only_one_queue_is_touched}
 use Rattle.gate_walk.proofs.UnderWay.{walked}
-use Rattle.gate_settling.specs.Touching.{Touching, delivered, sees, IsWalked}
+use Rattle.gate_settling.specs.Touching.{Touching, delivered, sees, HasWalked}
 use Rattle.gate_settling.proofs.ColumnLemmas.{columns_of, others_stay}
 use Rattle.gate_settling.proofs.ListLemmas.{each_same}
 use Rattle.gate_settling.proofs.SeamLemmas.{is_of, is_own, row_parts, one_of, SettlesRows, OthersStay, SettlesOne}
@@ -153,28 +153,28 @@ seen_own : {c : Settings} {x : Content} {k : TouchedItem} (h : Touching c x k) (
     In v (rows_seen (delivered h)) → is_of h.after.queues k.queue v.row.serial ≡ true
 seen_own {c = c} {x = x} {k = k} h v m =
     let r = from_map (sees h) (stale_rows (delivered h)) v m in
-    let j = from_map (row_by (columns_of c x.state)) (queue_after (delivered h)).items r.0
+    let j = from_map (row_by_columns (columns_of c x.state)) (queue_after (delivered h)).items r.0
     (subst (In r.0) (left h).rows r.1) in
     subst (λ n. is_of h.after.queues k.queue n ≡ true)
     (ap (λ (y : ItemRow). y.serial) j.2 ∙ ap (λ (y : Seen). y.row.serial) r.2) (own_serial h j.0 j.1)
 
 -- its rows are settled
-mine_settled : {c : Settings} {x : Content} {k : TouchedItem} (h : Touching c x k) (w : Walk) → IsWalked h w →
+mine_settled : {c : Settings} {x : Content} {k : TouchedItem} (h : Touching c x k) (w : Walk) → HasWalked h w →
     (let o = queue_after (delivered h) in
-    fold_edits (rows_with o (map (row_by (columns_of c x.state)) o.items) h.after.builds) w.told
+    fold_edits (rows_with o (map (row_by_columns (columns_of c x.state)) o.items) h.after.builds) w.told
     ≡ rows_in c (swept c h.after) (swept_of c h.after o))
 mine_settled h w done =
     let o = queue_after (delivered h) in
     ap (λ rows. fold_edits (rows_with o rows h.after.builds) w.told) (sym (left h).rows) ∙ done.settled
 
-rows_settled : {c : Settings} {x : Content} {k : TouchedItem} (h : Touching c x k) (w : Walk) → IsWalked h w →
+rows_settled : {c : Settings} {x : Content} {k : TouchedItem} (h : Touching c x k) (w : Walk) → HasWalked h w →
     (q : Queue) → In q h.after.queues → SettlesRows c h.after k.queue (columns_of c x.state) w.told q
 rows_settled {c = c} {x = x} {k = k} h w done q m named =
     let o = queue_after (delivered h) in
     let t = h.after in
     let same : o ≡ q = name_alone c t h.sound (after_sound h) o q (queue_left h) m
     (same_name_of o.name q.name (name_left h ∙ sym (same_name_is q.name k.queue named))) in
-    subst (λ (z : Queue). fold_edits (rows_with z (map (row_by (columns_of c x.state)) z.items) t.builds) w.told
+    subst (λ (z : Queue). fold_edits (rows_with z (map (row_by_columns (columns_of c x.state)) z.items) t.builds) w.told
     ≡ rows_in c (swept c t) (swept_of c t z)) same (mine_settled h w done)
 
 others_settled : {c : Settings} {x : Content} {k : TouchedItem} (h : Touching c x k) (q : Queue) →
@@ -284,12 +284,12 @@ rows_serials c s q bs n ahead [] = refl
 rows_serials c s q bs n ahead (i ∷ is) =
     ap (λ b. i.serial == n || b) (rows_serials c s q bs n (next_ahead bs (with_ahead ahead (place_of c s q i))) is)
 
-by_serials : (cols : ℕ → Columns) (n : ℕ) (is : List Item) → is_there n (map (row_by cols) is) ≡ has_serial is n
+by_serials : (cols : ℕ → Columns) (n : ℕ) (is : List Item) → is_there n (map (row_by_columns cols) is) ≡ has_serial is n
 by_serials cols n [] = refl
 by_serials cols n (i ∷ is) = ap (λ b. i.serial == n || b) (by_serials cols n is)
 
 -- the walk drops those items that go
-drops_goers : {c : Settings} {x : Content} {k : TouchedItem} (h : Touching c x k) (w : Walk) → IsWalked h w →
+drops_goers : {c : Settings} {x : Content} {k : TouchedItem} (h : Touching c x k) (w : Walk) → HasWalked h w →
     (n : ℕ) → is_dropped w.told n ≡ goes_now c h.after n
 drops_goers {c = c} {x = x} {k = k} h w done n =
     by_drop (is_dropped w.told n) refl (goes_now c t n) refl
@@ -301,7 +301,7 @@ drops_goers {c = c} {x = x} {k = k} h w done n =
     o = queue_after (delivered h)
 
     start : List ItemRow
-    start = map (row_by (columns_of c x.state)) o.items
+    start = map (row_by_columns (columns_of c x.state)) o.items
 
     told : w.told ≡ (walk_by (delivered h) done.visits).told
     told = ap (λ (y : Walk). y.told) done.visited.is
@@ -332,19 +332,19 @@ drops_goers {c = c} {x = x} {k = k} h w done n =
         let stays = stays_there o.name n w.told start d (by_serials (columns_of c x.state) n o.items ∙ here) in
         absurd (true≢false (sym stays ∙ at_end ∙ ap (λ b. not b && has_serial o.items n) g))
 
-plans_settled : {c : Settings} {x : Content} {k : TouchedItem} (h : Touching c x k) (w : Walk) → IsWalked h w →
+plans_settled : {c : Settings} {x : Content} {k : TouchedItem} (h : Touching c x k) (w : Walk) → HasWalked h w →
     AllPass (is_own h.after.queues k.queue) w.told →
     fold edited_plans h.after.plans w.told ≡ (swept c h.after).plans
 plans_settled {k = k} h w done own =
     plans_left h.after.queues k.queue w.told h.after.plans own
     ∙ (λ z. without_plans (λ n. drops_goers h w done n z) h.after.plans)
 
-pub settles_one : {c : Settings} {x : Content} {k : TouchedItem} (h : Touching c x k) (w : Walk) → IsWalked h w →
+pub settles_one : {c : Settings} {x : Content} {k : TouchedItem} (h : Touching c x k) (w : Walk) → HasWalked h w →
     SettlesOne c x h.after k.queue w.told
 settles_one {c = c} {x = x} {k = k} h w done =
     let t = h.after in
     let o = queue_after (delivered h) in
-    let start = rows_with o (map (row_by (columns_of c x.state)) o.items) t.builds in
+    let start = rows_with o (map (row_by_columns (columns_of c x.state)) o.items) t.builds in
     let own : AllPass (is_own t.queues k.queue) w.told =
     subst (λ (b : Walk). AllPass (is_own t.queues k.queue) b.told) (sym done.visited.is)
     (own_walk (delivered h) t.queues k.queue (name_left h) (seen_own h) done.visits done.visited.were_wanted) in

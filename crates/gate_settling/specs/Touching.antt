@@ -67,7 +67,7 @@ abbrev pub sees : {c : Settings} → {x : Content} → {k : TouchedItem} → Tou
 sees {c = c} h r = row_seen c h.after (stale_rows (delivered h)) r
 
 -- a walk has made its visits, and its edits settle the queue
-pub record IsWalked {c : Settings} {x : Content} {k : TouchedItem} (h : Touching c x k) (w : Walk) : Type 0 where
+pub record HasWalked {c : Settings} {x : Content} {k : TouchedItem} (h : Touching c x k) (w : Walk) : Type 0 where
   pub visits : List Seen
   pub visited : HasVisited (delivered h) w visits
   pub settled : rows_walked (delivered h) w ≡ tables_settled (delivered h)
@@ -76,5 +76,5 @@ pub record IsWalked {c : Settings} {x : Content} {k : TouchedItem} (h : Touching
 pub record AreToldOf {c : Settings} {x : Content} {k : TouchedItem} (h : Touching c x k)
     (edits : List Edit) : Type 0 where
   pub walk : Walk
-  pub walked : IsWalked h walk
+  pub walked : HasWalked h walk
   pub told : edits ≡ walk.told

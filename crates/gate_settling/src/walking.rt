@@ -4,7 +4,7 @@ ghost use Rattle.gate_walk.specs.Walk as walks;
 ghost use Rattle.gate_walk.specs.UnderWay.{HasVisited, GoesOn, Starts, row_wanted};
 ghost use Rattle.gate_book_trait.specs.Reading.{IsReadUnder};
 ghost use Rattle.gate_settling.specs.Rows as rows;
-ghost use Rattle.gate_settling.specs.Touching.{Touching, delivered, sees, IsWalked};
+ghost use Rattle.gate_settling.specs.Touching.{Touching, delivered, sees, HasWalked};
 ghost use Rattle.gate_book_trait.specs.Faults.{MayAnswer};
 
 use crate::needing::Needing;
@@ -53,7 +53,7 @@ pub(crate) fn walked<B: Book>(
 ) -> Result<Walk, BookFault>
     ensures { IsReadUnder B.IsTrusted B.Holds B.LeavesOneOf (MayAnswer B.MayFault) book.old book.new config.now (λ x.
         (h : Touching config.now x touched.now) → Starts (delivered h) begun →
-        IfOk result (λ walk. IsWalked h walk)) result }
+        IfOk result (λ walk. HasWalked h walk)) result }
 {
     let mut walk = begun;
     let mut needing = Needing::none(alloc);

@@ -34,8 +34,8 @@ use Rattle.gate_table_laws.proofs.ReadLemmas.{told_of, no_rows, shown, shut}
 use Rattle.gate_table_laws.proofs.told.Names.{queues_are_named}
 use Rattle.gate_queue_queries.specs.History.{WritesWhole}
 use Rattle.gate_archive_queries.specs.Answers.{IsArchiveOf}
-use Rattle.gate_archive_queries.specs.Asked.{TellsReports, is_left_in_form}
-use Rattle.gate_archive_queries.specs.HistoryFrom.{HoldsReports, text_from}
+use Rattle.gate_archive_queries.specs.Asked.{TellsIfInForm, is_left_in_form}
+use Rattle.gate_archive_queries.specs.HistoryFrom.{HoldsDrawnReports, text_from}
 use Rattle.gate_archive_queries.proofs.ToldReads.{past_is_told}
 use Rattle.gate_sql.proofs.HistoryLemmas.{names_told, some_known}
 
@@ -47,7 +47,7 @@ archive_of {c = c} sound lawful told = past_is_told lawful (queues_are_named (na
 
 -- where what is found of the reports' rows is what the content says, a read that reads them answers that
 pub reports_are : {T : Type 0} {names : List (List ℕ)} {c : Settings} {x : Content} {value : Stored → T} (v : T) (old new : State) (result : Result T BookFault)
-    → TellsReports old new result value → Opened old new result → HasCleanDisk new → HoldsFor old names c x
+    → TellsIfInForm old new result value → Opened old new result → HasCleanDisk new → HoldsFor old names c x
     → ((b : Stored) → rows.Matches b (tables c x) → AllPass is_left_in_form b.reports × (value b ≡ v)) → Answers v result
 reports_are v old new (Ok found) tells opened clean held told =
     let it = held.shows (opened clean) in
@@ -91,14 +91,14 @@ module _ {c : Settings} {x : Content} {s : State} {names : List (List ℕ)} (hol
   there = some_known name x.state.queues (ap (λ l. is_among l name) (sym (names_told holds lawful name)) ∙ (found_among names name n known).0)
 
   -- what is written of the reports in the tables is written of the queue
-  of_queue : (Takes : List ℕ → Type 0) → IsTrue s.is_open → ((b : Stored) → Shows s b → IsWhole b → (rs : List Report) → HoldsReports b n rs → Takes (front ++ text_from n from rs)) → OfQueueFrom x.state name from front Takes
+  of_queue : (Takes : List ℕ → Type 0) → IsTrue s.is_open → ((b : Stored) → Shows s b → IsWhole b → (rs : List Report) → HoldsDrawnReports b n rs → Takes (front ++ text_from n from rs)) → OfQueueFrom x.state name from front Takes
   of_queue Takes up written =
       let it = holds.shows up in
       let b = it.stands.stored in
       let past = archive_of holds.sound lawful it.stands.matches in
       let whole = (told_of holds.sound lawful it.stands.matches).0 in
       let same = (found_among names name n known).1 in
-      let reports = subst (λ m. HoldsReports b m there.0.reports) (sym same) (past.reports name there.0 there.1) in
+      let reports = subst (λ m. HoldsDrawnReports b m there.0.reports) (sym same) (past.reports name there.0 there.1) in
       record {
         queue = there.0;
         named = there.1;
@@ -108,7 +108,7 @@ module _ {c : Settings} {x : Content} {s : State} {names : List (List ℕ)} (hol
 
   -- so it is whatever is answered
   pub history_so : (result : Result (Unit {0}) HistoryFault)
-      → ((b : Stored) → Shows s b → IsWhole b → (rs : List Report) → HoldsReports b n rs → WritesWhole held old new (front ++ text_from n from rs) result)
+      → ((b : Stored) → Shows s b → IsWhole b → (rs : List Report) → HoldsDrawnReports b n rs → WritesWhole held old new (front ++ text_from n from rs) result)
       → MatchResult result (λ _. IsTrue s.is_open) (λ f. f ≢ history.Unavailable → IsTrue s.is_open) → WritesHistoryFrom x.state name from front held old new result
   history_so (Ok u) written opened = of_queue (Took held old new) opened written
   history_so (Err history.NoQueue) written opened = absurd (of_queue (λ _. ⊥) (opened (λ e. cc)) written).taken

@@ -14,7 +14,7 @@ use Rattle.gate_types.specs.Tables.{QueueRows, queue_rows as rows_of, tables}
 use Rattle.gate_types.specs.declared.config.Queue.{Queue}
 use Rattle.gate_rows.specs.Matches.{StandsFor, Matches, of_queue, placed}
 use Rattle.gate_schema.specs.Rows.{Stands}
-use Rattle.gate_file_changes.specs.Making.{first_stored, queue_row, first_queue_rows}
+use Rattle.gate_file_changes.specs.Making.{first_stored, queue_row_at, first_queue_rows}
 
 -- what stands of the queues before the first delivery
 abbrev first_told : Settings → List Queue → List QueueRows
@@ -23,7 +23,7 @@ first_told c qs = map (λ q. rows_of (item_rows c (start c) q) q) (map empty_que
 -- each is in its place
 first_places : (c : Settings) (n : ℕ) (qs : List Queue) → first_queue_rows n qs ≡ placed n (first_told c qs)
 first_places c n [] = refl
-first_places c n (q ∷ qs) = ap (λ l. queue_row n q ∷ l) (first_places c (suc n) qs)
+first_places c n (q ∷ qs) = ap (λ l. queue_row_at n q ∷ l) (first_places c (suc n) qs)
 
 -- a list that is empty in each queue is so in the queue of a name
 none_of : {X : Type 0} (list : QueueRows → List X) (c : Settings) → ((q : Queue) → list (rows_of [] (empty_queue q)) ≡ []) → (name : List ℕ) (qs : List Queue) → of_queue list name (first_told c qs) ≡ []

@@ -7,7 +7,7 @@ use Rattle.sqlite.specs.State.{State}
 use Rattle.gate_types.specs.Forms.{IsLawfulContent}
 use Rattle.gate_types.specs.Names.{same_name}
 use Rattle.gate_types.specs.Once.{Content}
-use Rattle.gate_types.specs.Rows.{numbered}
+use Rattle.gate_types.specs.Rows.{numbered_reports}
 use Rattle.gate_types.specs.Settings.{Settings}
 use Rattle.gate_types.specs.State.{Queue}
 use Rattle.gate_types.specs.Tap.{Took, TookFront}
@@ -77,9 +77,9 @@ module _ {c : Settings} {x : Content} {s : State} {names : List (List ℕ)} (hol
         let there = some_known name x.state.queues (ap (λ l. is_among l name) (sym names_told) ∙ known) in
         let shown = holds.shows it.was_open in
         let b = shown.stands.stored in
-        let rows : IsPermutation (reports_of name b.reports) (numbered 0 there.0.reports) =
+        let rows : IsPermutation (reports_of name b.reports) (numbered_reports 0 there.0.reports) =
         subst (λ l. IsPermutation (reports_of name b.reports) l)
-        (report_rows c x b shown.stands.matches name ∙ ap (λ o. numbered 0 (option_map_or (λ (q : Queue). q.reports) o [])) there.1)
+        (report_rows c x b shown.stands.matches name ∙ ap (λ o. numbered_reports 0 (option_map_or (λ (q : Queue). q.reports) o [])) there.1)
         (shown.stands.matches.queues_are.reports_are name) in
         record {
           queue = there.0;

@@ -15,7 +15,7 @@ use Rattle.gate_kept_settings.specs.Told.{OneTextASetting, SaysSettings}
 use Rattle.gate_laws.proofs.SameSettingsStay.{same_settings_stay}
 use Rattle.gate_file_changes.specs.Adopts.{CanAdopt, StandsForLawful}
 use Rattle.gate_file_meta.specs.Opens.{MayOpen}
-use Rattle.gate_file_meta.specs.Reading.{HasNoneToAdopt, IsFoundOf, IsJudgedOf, IsToldOf, ShowsMeta}
+use Rattle.gate_file_meta.specs.Reading.{HasNoneToAdopt, IsFoundOf, IsJudgedOf, IsToldByTrees, ShowsMeta}
 
 -- the settings that are kept tell their text
 told : (db : Trees) (c d : Settings) (x : Content) (keeps : StandsForLawful db c x) → SaysSettings keeps.stands.stored.settings c
@@ -54,5 +54,5 @@ pub some_to_adopt : (db : Database) (d k : Settings) → IsFoundOf (Ok (Some k))
 some_to_adopt db d k found none = none found.0 k found.4 found.1 found.2 found.3
 
 -- what is told of the tables of a connection is told of these trees, which are its own
-pub told_of : (db : Database) (fault : Option OpenFault) (trees : Trees) (d : Settings) → db.trees ≡ trees → Lists (db.trees catalog_tree) db.schema → IsJudgedOf fault (ShowsMeta db) d → IsToldOf fault trees d
-told_of db fault trees d is lists told = subst (λ t. IsToldOf fault t d) is (record { schema = db.schema; lists = lists; told = told })
+pub told_of : (db : Database) (fault : Option OpenFault) (trees : Trees) (d : Settings) → db.trees ≡ trees → Lists (db.trees catalog_tree) db.schema → IsJudgedOf fault (ShowsMeta db) d → IsToldByTrees fault trees d
+told_of db fault trees d is lists told = subst (λ t. IsToldByTrees fault t d) is (record { schema = db.schema; lists = lists; told = told })

@@ -8,12 +8,12 @@ ghost use Rattle.gate_rows.specs.Matches.{StandsFor};
 ghost use Rattle.gate_schema.specs.Rows.{Stands};
 ghost use Rattle.gate_schema.specs.Schema.{schema_with};
 ghost use Rattle.gate_found_rows.specs.Finds.{Stays};
-ghost use Rattle.gate_found_rows.specs.Reads.{IsShown};
+ghost use Rattle.gate_found_rows.specs.Reads.{IsStoredIn};
 ghost use Rattle.gate_sql.specs.Handed.{answered, handed};
 ghost use Rattle.gate_table_laws.specs.Held.{HoldsFor};
 ghost use Rattle.gate_sql.specs.Handed.{names_of};
 ghost use Rattle.gate_sql.specs.Refused.{IsRefused};
-ghost use Rattle.gate_file_changes.specs.Making.{IsSettled, first_stored, first_queue_rows};
+ghost use Rattle.gate_file_changes.specs.Making.{IsUpAndCommitted, first_stored, first_queue_rows};
 ghost use Rattle.gate_file_meta.specs.Opens.{IsMade, is_taken};
 
 use crate::book::{SqlBook, texts_of};
@@ -56,8 +56,8 @@ fn has_names(schema: &Schema) -> bool
 fn fill<S: Alter>(conn: &mut Connection<S>, settings: &str, queues: &[Queue]) -> Result<(), Error>
     requires { conn.old.in_transaction ≡ false }
     ensures all { HasCleanDisk (state S.Store conn.new) → (state S.Store conn.old).now.schema ≡ schema_with 0 0 →
-        OnOk result (IsShown (state S.Store conn.new) (first_stored settings.now (first_queue_rows 0 queues.now))) }
-    ensures settled { HasCleanDisk (state S.Store conn.new) → OnOk result (IsSettled (state S.Store conn.new)) }
+        OnOk result (IsStoredIn (state S.Store conn.new) (first_stored settings.now (first_queue_rows 0 queues.now))) }
+    ensures settled { HasCleanDisk (state S.Store conn.new) → OnOk result (IsUpAndCommitted (state S.Store conn.new)) }
     ensures none { HasCleanDisk (state S.Store conn.new) →
         OnErr result (Stays (state S.Store conn.old) (state S.Store conn.new)) }
     ensures clean { HasCleanDisk (state S.Store conn.new) → HasCleanDisk (state S.Store conn.old) }

@@ -12,7 +12,7 @@ ghost use Rattle.gate_rows.specs.Matches.{StandsFor};
 ghost use Rattle.gate_file_changes.specs.Adopts.{StandsForLawful};
 ghost use Rattle.gate_table_laws.specs.Held.{HoldsFor, HoldsForOne, StandsForOne};
 ghost use Rattle.gate_sql.specs.Handed.{names_of};
-ghost use Rattle.gate_file_meta.specs.Reading.{IsToldOf};
+ghost use Rattle.gate_file_meta.specs.Reading.{IsToldByTrees};
 
 use crate::book::SqlBook;
 use gate_types::config::Config;
@@ -52,9 +52,9 @@ impl<S: Alter + Drop> SqlBook<S> {
             may_adopt c config.now ≡ true →
             IfErr result (λ e. IsClean (S.Store.view e.1) → e.0 ≡ OpenFault.Unavailable) }
         ensures told { IfOk result (λ book. HasCleanDisk (state S.Store book.conn) →
-            IsToldOf None (S.Store.view store).trees config.now) }
+            IsToldByTrees None (S.Store.view store).trees config.now) }
         ensures fault_told { IfErr result (λ e. IsClean (S.Store.view e.1) → e.0 ≢ OpenFault.Unavailable →
-            IsToldOf (Some e.0) (S.Store.view store).trees config.now) }
+            IsToldByTrees (Some e.0) (S.Store.view store).trees config.now) }
         ensures fault { (x : Content) → StandsFor (S.Store.view store).trees config.now x →
             IfErr result (λ e. IsClean (S.Store.view e.1) → e.0 ≡ OpenFault.Unavailable) }
     {

@@ -27,7 +27,7 @@ pub record IsAnsweredBy (b : Stored) (c : Settings) (x : Content) : Type 0 where
   -- the number of a change's approval, while it is ready
   pub approval : (n : ℕ) → file.stored_approval_of b n ≡ approval_of x.state.ready n
   -- the changes that are ready, in order of approval
-  pub ready : (found : List Ready) → file.AreReady b found → found ≡ x.state.ready
+  pub ready : (found : List Ready) → file.AreReadyByApproval b found → found ≡ x.state.ready
   -- those of them that need another
   pub ready_needing : (n : ℕ) (found : List Ready) → file.AreReadyNeeding b n found →
       found ≡ content.ready_needing x.state n

@@ -14,7 +14,7 @@ use Rattle.gate_types.specs.Tables.{approval_of}
 use Rattle.gate_types.specs.Step.{has_project}
 use Rattle.gate_types.specs.Lawful.{IsSound}
 use Rattle.gate_laws.proofs.Members.{every, found, not_found, any_from}
-use Rattle.gate_archive.specs.ChangeText.{stands_in, serial_of, need_word, need_object, need_piece, is_full}
+use Rattle.gate_archive.specs.ChangeText.{stands_in, serial_of_change, need_word, need_object, need_piece, takes_no_more}
 use Rattle.gate_archive.specs.ChangeText.{change_object, change_text_in, change_text}
 use Rattle.gate_texts.specs.Changes.{standing_of, need_told, change_told}
 use Rattle.gate_texts.specs.declared.change.Standing.{Standing}
@@ -48,13 +48,13 @@ needs_are c s = record {
 -- ---- a change
 
 pub change_is : (c : Settings) (s : State) (k : Change) (queue : List ℕ) (w : Standing) (full : Bool)
-    (needs text : List ℕ) → w ≡ standing_of c s k.number → full ≡ is_full c s queue →
+    (needs text : List ℕ) → w ≡ standing_of c s k.number → full ≡ takes_no_more c s queue →
     needs ≡ joined (map (need_piece c s) k.needs) [] → text ≡ change_told k w queue full needs [] →
     text ≡ change_text_in c s k queue
 change_is c s k queue w full needs text e f n t =
     t ∙ (λ i. change_told k (e i) queue (f i) needs [])
-    ∙ (λ i. change_object k (λ r. number_is (approval_of s.ready k.number) r i) queue (is_full c s queue)
-    (λ r. array_is (needs_are c s) k.needs needs r n i) (λ r. number_is (serial_of c s k.number) r i) [])
+    ∙ (λ i. change_object k (λ r. number_is (approval_of s.ready k.number) r i) queue (takes_no_more c s queue)
+    (λ r. array_is (needs_are c s) k.needs needs r n i) (λ r. number_is (serial_of_change c s k.number) r i) [])
 
 -- ---- its project
 

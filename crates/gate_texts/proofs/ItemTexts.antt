@@ -25,7 +25,7 @@ use Rattle.gate_book_trait.specs.Reads.{queued_of, item_at, live_builds}
 use Rattle.gate_book_trait.specs.declared.rows.QueuedItem.{QueuedItem}
 use Rattle.gate_archive.specs.OrNull.{or_null}
 use Rattle.gate_archive.specs.ItemText.{queued_at, left_at, told_queued, told_left, place_at, job_object, job_piece}
-use Rattle.gate_archive.specs.ItemText.{jobs_piece, builds_of, last_builds, summary_piece, item_object, text_of}
+use Rattle.gate_archive.specs.ItemText.{jobs_piece, builds_of, last_builds, summary_piece, item_object, item_text_of}
 use Rattle.gate_archive.specs.ItemText.{item_text}
 use Rattle.gate_archive.specs.declared.rows.BuildSummary.{BuildSummary}
 use Rattle.gate_archive.specs.declared.rows.LeftItem.{LeftItem}
@@ -36,7 +36,7 @@ use Rattle.gate_reads.proofs.Queues.{named_itself}
 use Rattle.gate_reads.proofs.Stood.{Stood, stood, stood_in, stood_there, queued_as, serial_of, change_of, change_once}
 use Rattle.gate_reads.proofs.Stood.{queued_is, item_is, queued_are}
 use Rattle.gate_reads.proofs.Walking.{lawful_front}
-use Rattle.gate_texts.specs.Items.{job_told, is_cut_by_key, jobs_by_key, verdict_text, told_as, item_told, IsToldOf}
+use Rattle.gate_texts.specs.Items.{job_told, is_cut_by_key, jobs_by_key, verdict_text, told_summary, item_told, IsToldOf}
 use Rattle.gate_texts.specs.Values.{written}
 use Rattle.gate_texts.specs.declared.item.WrittenItem.{WrittenItem}
 use Rattle.gate_texts.proofs.AheadByKey.{blocked_by_key}
@@ -190,7 +190,7 @@ pub item_is_told : (c : Settings) (s : State) (n : ℕ) (t : WrittenItem) (last 
 item_is_told c s n t last builds text kept h l b k e =
     let all : builds ≡ joined (map summary_piece (last_builds s n most_listed)) [] =
     b ∙ ap (λ bs. joined (map summary_piece bs) []) l in
-    ap Some (e ∙ (λ i. item_object n (told_as t)
+    ap Some (e ∙ (λ i. item_object n (told_summary t)
     (λ r. array_is summaries_are (last_builds s n most_listed) builds r all i) (k i)
     (λ r. jobs_behind s.builds (place_at c s n) (string_bytes t.jobs) r h.jobs i) (λ r. verdict_is t.verdict r i) []))
-    ∙ sym (ap (option_map (text_of c s n)) h.told)
+    ∙ sym (ap (option_map (item_text_of c s n)) h.told)

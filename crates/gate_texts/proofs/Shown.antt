@@ -25,7 +25,7 @@ use Rattle.gate_reads.proofs.Walking.{IsLeft, IsNext, places_from, step_along, e
 use Rattle.gate_reads.proofs.Trying.{place_next, with_row, longer_is}
 use Rattle.gate_reads.proofs.OwnBuilds.{all_count, slots_are}
 use Rattle.gate_reads.proofs.KnownPlaces.{there_too, jobs_at, fast_at, needs_at, blocked_is}
-use Rattle.gate_texts.specs.Lines.{standing_word, item_line}
+use Rattle.gate_texts.specs.Lines.{standing_word_by, item_line}
 use Rattle.gate_texts.proofs.Pieces.{one_more, all_there}
 
 -- up to this serial the lines stand in the text; these changes are ahead of what is left
@@ -103,7 +103,7 @@ item_told {c} {s} {name} {ahead} {i} {q} {p} lawful at known needs builds plan j
     λ d. row (
     right 6 (decimal (at.row_is d).serial) ∷ right 9 (decimal (at.row_is d).change) ∷
     right 4 (decimal (at.row_is d).revision) ∷ right 6 (number_or_dash (at.row_is d).ahead) ∷
-    left 7 (standing_word (stands d) (at.row_is d).failing) ∷
+    left 7 (standing_word_by (stands d) (at.row_is d).failing) ∷
     map (λ h. h.name ++ 61 ∷ slot_word (cond (cuts d)
     (cut_slot (slots_are s p builds h own (all_count c s lawful p here) d))
     (slots_are s p builds h own (all_count c s lawful p here) d))) (jobs_are d))

@@ -15,8 +15,8 @@ abbrev pub standing_of : Settings → State → ℕ → Standing
 standing_of c s n = record { approval = approval_of s.ready n; queued = queued_of c s n }
 
 -- the queue in which it is an item, or null
-abbrev pub queue_text : Standing → List ℕ
-queue_text w = name_text (option_map (λ k. k.queue) w.queued)
+abbrev pub queue_name_text : Standing → List ℕ
+queue_name_text w = name_text (option_map (λ k. k.queue) w.queued)
 
 -- the serial of its item, or null
 abbrev pub order_text : Standing → List ℕ
@@ -24,7 +24,7 @@ order_text w = number_text (option_map (λ k. k.item.serial) w.queued)
 
 -- a need, where it stands, and what has become of it
 abbrev pub need_told : ℕ → Standing → List ℕ → Piece
-need_told n w state = need_object n (written (number_text w.approval)) (written (queue_text w)) state
+need_told n w state = need_object n (written (number_text w.approval)) (written (queue_name_text w)) state
 
 -- a change, where it stands, its project's queue, whether that is full, and its needs
 abbrev pub change_told : Change → Standing → List ℕ → Bool → List ℕ → Piece

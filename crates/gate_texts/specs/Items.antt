@@ -42,18 +42,18 @@ abbrev pub verdict_text : Option Verdict → List ℕ
 verdict_text verdict = name_text (option_map verdict_word verdict)
 
 -- what is told of an item, beside its jobs
-abbrev pub told_as : WrittenItem → ItemSummary
-told_as t = record { queue = t.queue; change = t.change; revision = t.revision; verdict = t.verdict }
+abbrev pub told_summary : WrittenItem → ItemSummary
+told_summary t = record { queue = t.queue; change = t.change; revision = t.revision; verdict = t.verdict }
 
 -- an item, its builds, and how many are kept
 abbrev pub item_told : ℕ → WrittenItem → List ℕ → ℕ → Piece
 item_told serial t builds kept =
-    item_object serial (told_as t) (bracketed builds) kept (written (string_bytes t.jobs))
+    item_object serial (told_summary t) (bracketed builds) kept (written (string_bytes t.jobs))
     (written (verdict_text t.verdict))
 
 -- the item of a serial, there or gone, and its jobs
 pub record IsToldOf (c : Settings) (s : State) (serial : ℕ) (t : WrittenItem) : Type 0 where
-  pub told : told_of c s serial ≡ Some (told_as t)
+  pub told : told_of c s serial ≡ Some (told_summary t)
   pub jobs : string_bytes t.jobs ≡ or_null (jobs_piece s.builds) (place_at c s serial) []
 
 -- there is one just where one was drawn

@@ -14,19 +14,20 @@ abbrev pub slot_by : Bool → List Build → Job → Slot
 slot_by cut builds j = if cut then cut_slot (slot_among builds j) else slot_among builds j
 
 -- as `unit=success`
-abbrev pub job_column : Bool → List Build → Job → List ℕ
-job_column cut builds j = j.name ++ 61 ∷ slot_word (slot_by cut builds j)
+abbrev pub job_column_by : Bool → List Build → Job → List ℕ
+job_column_by cut builds j = j.name ++ 61 ∷ slot_word (slot_by cut builds j)
 
 -- how an item stands
-abbrev pub standing_word : Bool → Bool → List ℕ
-standing_word blocked failing =
+abbrev pub standing_word_by : Bool → Bool → List ℕ
+standing_word_by blocked failing =
     if blocked then codes "blocked" else (if failing then codes "failing" else codes "ok")
 
 -- serial, change, revision, ahead, standing, jobs
 abbrev pub item_line : ItemRow → Bool → Bool → List Build → List Job → List ℕ
 item_line i blocked cut builds jobs = row (
     right 6 (decimal i.serial) ∷ right 9 (decimal i.change) ∷ right 4 (decimal i.revision) ∷
-    right 6 (number_or_dash i.ahead) ∷ left 7 (standing_word blocked i.failing) ∷ map (job_column cut builds) jobs)
+    right 6 (number_or_dash i.ahead) ∷ left 7 (standing_word_by blocked i.failing) ∷
+    map (job_column_by cut builds) jobs)
 
 -- the line of a queue, with its window and how many landings it has
 abbrev pub queue_line : List ℕ → ℕ → ℕ → List ℕ

@@ -44,7 +44,7 @@ fn need_word(known: &Option<Change>) -> &'static str
 
 /// The name of the queue in which a change is an item, or null.
 fn queue_text(alloc: Global, standing: &Standing) -> Result<String, NoMemory>
-    ensures { IfOk result (λ s. string_bytes s ≡ told.queue_text standing.now) }
+    ensures { IfOk result (λ s. string_bytes s ≡ told.queue_name_text standing.now) }
 {
     match &standing.queued {
         Some(queued) => in_quotes(alloc, queued.queue.as_str()),

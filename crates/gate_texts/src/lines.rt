@@ -63,7 +63,7 @@ fn ahead_text(alloc: Global, ahead: Option<Serial>) -> Result<String, NoMemory>
 
 /// How an item stands, left in 7 places.
 fn standing_text(blocked: bool, failing: bool) -> &'static str
-    ensures { result.now ≡ left 7 (line.standing_word blocked failing) }
+    ensures { result.now ≡ left 7 (line.standing_word_by blocked failing) }
 {
     if blocked {
         "blocked"
@@ -88,7 +88,7 @@ pub(crate) fn slot_word(slot: Slot) -> &'static str
 
 /// A job behind a space.
 fn job_text(alloc: Global, cut: bool, builds: &[Build], job: &Job) -> Result<String, NoMemory>
-    ensures { IfOk result (λ s. string_bytes s ≡ 32 ∷ line.job_column cut builds.now job.now) }
+    ensures { IfOk result (λ s. string_bytes s ≡ 32 ∷ line.job_column_by cut builds.now job.now) }
 {
     let name = job.name.as_str();
     let slot = slot_word(slot_where(cut, slot_among(alloc, builds, job)?));
@@ -97,7 +97,7 @@ fn job_text(alloc: Global, cut: bool, builds: &[Build], job: &Job) -> Result<Str
 
 /// The jobs of an item, each behind a space.
 fn jobs_text(alloc: Global, cut: bool, builds: &[Build], jobs: &[Job]) -> Result<String, NoMemory>
-    ensures { IfOk result (λ s. string_bytes s ≡ flat_map (λ j. 32 ∷ line.job_column cut builds.now j) jobs.now) }
+    ensures { IfOk result (λ s. string_bytes s ≡ flat_map (λ j. 32 ∷ line.job_column_by cut builds.now j) jobs.now) }
 {
     let mut text = String::new(alloc);
     for job in jobs {

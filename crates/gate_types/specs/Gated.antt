@@ -8,5 +8,5 @@ pub record Gated : Type 0 where
   pub content : Content
 
 -- a gate before its first delivery
-abbrev pub opened : Settings → Gated
-opened c = record { settings = c; content = empty c }
+abbrev pub new_gate : Settings → Gated
+new_gate c = record { settings = c; content = empty c }

@@ -41,9 +41,9 @@ abbrev pub item_rows : Settings → State → Queue → List ItemRow
 item_rows c s q = map (row_of s.builds) (places c s q)
 
 -- the reports, numbered from the one after n
-abbrev pub numbered : ℕ → List Report → List ReportRow
-numbered n [] = []
-numbered n (r ∷ rs) = record { place = suc n; report = r } ∷ numbered (suc n) rs
+abbrev pub numbered_reports : ℕ → List Report → List ReportRow
+numbered_reports n [] = []
+numbered_reports n (r ∷ rs) = record { place = suc n; report = r } ∷ numbered_reports (suc n) rs
 
 -- the rows of a queue, with those builds, by the places of its items
 abbrev pub rows_of : List Place → List Build → Queue → Rows
@@ -52,7 +52,7 @@ rows_of ps builds q = record {
   window = q.window;
   items = map (row_of builds) ps;
   builds = builds;
-  reports = numbered 0 q.reports;
+  reports = numbered_reports 0 q.reports;
 }
 
 -- the outcome of a build, told

@@ -21,7 +21,7 @@ use Rattle.gate_types.specs.Settings.{Settings}
 use Rattle.gate_types.specs.State.{Queue, put_by}
 use Rattle.gate_types.specs.Rebase.{with_live}
 use Rattle.gate_types.specs.declared.rows.ReportRow.{ReportRow}
-use Rattle.gate_types.specs.Rows.{item_rows, numbered, with_outcome, change_build, edited_items, edited_reports}
+use Rattle.gate_types.specs.Rows.{item_rows, numbered_reports, with_outcome, change_build, edited_items, edited_reports}
 use Rattle.gate_types.specs.Rows.{edited_window}
 use Rattle.gate_types.specs.Once.{Content}
 
@@ -64,7 +64,7 @@ queue_rows items q = record {
   window = q.window;
   items = items;
   landings = numbered_landings 0 q.landings;
-  reports = numbered 0 q.reports;
+  reports = numbered_reports 0 q.reports;
 }
 
 -- the tables of a content, with these rows for the items of each queue

@@ -24,7 +24,7 @@ use Rattle.gate_types.specs.Step.{raw_step, left_queue, leave, revised, shrunk_q
 use Rattle.gate_types.specs.Step.{raw_revision, raw_withdrawn, raw_closed, raw_landed, raw_refused, raw_result}
 use Rattle.gate_types.specs.Lawful.{IsSound}
 use Rattle.gate_laws.specs.Touch.{has_serial, queue_of_change, queue_of_serial, touched_by, settle_touched, settle_one, is_on}
-use Rattle.gate_walk.specs.Rescan.{live_builds_are_wanted, IsCalm, HasLeft, TakenOut, rows_with, Walks, start, stored}
+use Rattle.gate_walk.specs.Rescan.{live_builds_are_wanted, IsCalm, HasLeft, TakenOut, rows_with, Walks, walk_start, stored}
 use Rattle.gate_walk.specs.Rescan.{ahead_at, fails_at, without_row, rows_from, row_seen}
 use Rattle.gate_walk.specs.Kinds.{IsIn}
 use Rattle.gate_walk.specs.Delivery.{build_ended, item_left, item_landed, moved, touch_of, out_by}
@@ -193,11 +193,11 @@ first_row c s n q is i js h rest e =
 -- a walk that was told so by the row begins as one that is told what the row is
 at_first : (c : Settings) (s t : State) (q o : Queue) (i : Item) → ahead_at i.serial (stored c s q) ≡ None → fails_at i.serial (stored c s q) ≡ false →
     (let left = without_row i.serial (stored c s q) in let out : TakenOut = record { change = i.change; failing = false; landed = true } in
-    Walks (bounds_of c o) o left t.builds (map (place_of c t o) o.items) (start (Some out) None (length o.reports) o.window) (row_seen c t left) (rows_from i.serial left)) → WalksFrom c s t q o i item_landed
+    Walks (bounds_of c o) o left t.builds (map (place_of c t o) o.items) (walk_start (Some out) None (length o.reports) o.window) (row_seen c t left) (rows_from i.serial left)) → WalksFrom c s t q o i item_landed
 at_first c s t q o i first passes h =
     let left = without_row i.serial (stored c s q) in
     cast (λ k. let out : TakenOut = record { change = i.change; failing = sym passes k; landed = true } in
-    Walks (bounds_of c o) o left t.builds (map (place_of c t o) o.items) (start (Some out) (sym first k) (length o.reports) o.window) (row_seen c t left) (rows_from i.serial left)) h
+    Walks (bounds_of c o) o left t.builds (map (place_of c t o) o.items) (walk_start (Some out) (sym first k) (length o.reports) o.window) (row_seen c t left) (rows_from i.serial left)) h
 
 landed_done : (c : Settings) (s : State) (n : ℕ) (q : Queue) (is : List Item) (i : Item) (js : List Item) → IsIn c s q is i js → IsCalm c s → i.serial == n ≡ true → OnReply s (WalksAt c s (delivery.Landed n) q i) (raw_landed c s n)
 landed_done c s n q is i js h rest on =
@@ -278,7 +278,7 @@ touched_queue_is_walked c s d r t qs q rs is i js w lawful e eq ei on =
             let rows = stored c s q in
             let k = touch_of d in
             let left = standing_rows k i rows in
-            let began = start (out_by k i rows) (ahead_at i.serial rows) (length o.reports) o.window in
+            let began = walk_start (out_by k i rows) (ahead_at i.serial rows) (length o.reports) o.window in
             let rise = standing_rise k i rows (stored_rise c s q (items_rise c s q q.items 0 (rises (λ (j : Item). j.serial) q.items (every ItemsRise s.queues lawful.sound.items_rise q (queue_in c s q is i js h))))) in
             let settles = x.walks.at_stop ∙ settled_within c t o x.there (every ItemsRise t.queues sound.items_rise o x.there) (only_named t.queues distinct o x.there) alone in
             record {

@@ -22,12 +22,12 @@ use Rattle.gate_types.specs.Standing.{places_after}
 use Rattle.gate_types.specs.Slot.{is_cut}
 use Rattle.gate_types.specs.Sweep.{judge, judged_after, next_staying, next_window, verdict_of, goes}
 use Rattle.gate_types.specs.Window.{Bounds}
-use Rattle.gate_types.specs.Rows.{numbered, row_of, fold_edits, edited_items, edited_builds, edited_reports}
+use Rattle.gate_types.specs.Rows.{numbered_reports, row_of, fold_edits, edited_items, edited_builds, edited_reports}
 use Rattle.gate_types.specs.Rows.{edited_window}
 use Rattle.gate_types.specs.Rising.{RisesFrom}
 use Rattle.gate_queue_rules.specs.Edits.{stops, stop_edits, item_edits, edits_at, next_reports, window_behind}
 use Rattle.gate_queue_rules.specs.Settled.{verdicts, settled_rows}
-use Rattle.gate_walk.specs.Walk.{Seen, Carry, asks_for, carried, is_same_row, row_edits, visit_edits, walk_edits}
+use Rattle.gate_walk.specs.Walk.{Seen, Carry, is_asked_for, carried, is_same_row, row_edits, visit_edits, walk_edits}
 use Rattle.gate_walk.specs.Walk.{window_edits_by}
 use Rattle.gate_queue_rules.proofs.Ordered.{AllBelow, GoWith, Tells, row_serial, build_number, places_rise}
 use Rattle.gate_queue_rules.proofs.Ordered.{ahead_rise, ahead_with}
@@ -50,7 +50,7 @@ told (None ∷ es) = told es
 pub asked_told : (name : List ℕ) (bounds : Bounds) (k : Carry) (vs : List Seen) → told (asked name bounds k vs) ≡ walk_edits name bounds k vs
 asked_told name bounds k [] = refl
 asked_told name bounds k (v ∷ vs) =
-    by_test (asks_for k v) ∙ (λ i. cond (asks_for k v) (visit_edits name bounds k v ++ asked_told name bounds (carried bounds k v) vs i) (asked_told name bounds k vs i))
+    by_test (is_asked_for k v) ∙ (λ i. cond (is_asked_for k v) (visit_edits name bounds k v ++ asked_told name bounds (carried bounds k v) vs i) (asked_told name bounds k vs i))
   where
     by_test : (t : Bool) → told (cond t (Some (visit_edits name bounds k v) ∷ asked name bounds (carried bounds k v) vs) (None ∷ asked name bounds k vs)) ≡ cond t (visit_edits name bounds k v ++ told (asked name bounds (carried bounds k v) vs)) (told (asked name bounds k vs))
     by_test true = refl
@@ -237,7 +237,7 @@ items_told name bounds bs n m w staying leaves done (i ∷ is) (p ∷ ps) (None 
 -- the walk's edits settle the queue as a look at all of it would
 pub walk_settles : (name : List ℕ) (bounds : Bounds) (w n : ℕ) (bs : List Build) (is : List ItemRow) (ls : List Landing) (ps : List Place) (rs : List Report) (items : List Item) (es : List (Option (List Edit))) →
     length rs ≡ n → GoWith is ps → RisesFrom row_serial 0 is → RisesFrom build_number 0 bs → Right name bounds bs n w [] (places_after bs [] ps) is es →
-    fold_edits (record { name = name; window = w; items = is; builds = bs; reports = numbered 0 rs }) (told es)
+    fold_edits (record { name = name; window = w; items = is; builds = bs; reports = numbered_reports 0 rs }) (told es)
     ≡ settled_rows bounds ps bs (record { name = name; window = w; landings = ls; items = items; reports = rs })
 walk_settles name bounds w n bs is ls ps rs items es en g r rb a =
     let qs = places_after bs [] ps in
@@ -246,8 +246,8 @@ walk_settles name bounds w n bs is ls ps rs items es en g r rb a =
     let windows = window_told name bounds bs n w [] qs is es a in
     let items_are = items_told name bounds bs n 0 w [] (goes js) [] is qs es tt r (ahead_with bs [] is ps g) (goes_tells bs 0 [] qs rq) a ∙ append-nil (map (row_of bs) (stayers (goes js) qs)) in
     let builds = part_told (edited_builds name) name bounds bs n w [] qs is es bs (λ z m. refl) (λ z i. refl) a ∙ builds_fold name bs n qs rb rq in
-    let reports = part_told (edited_reports name) name bounds bs n w [] qs is es (numbered 0 rs) (λ z m. refl) (λ z i. refl) a ∙ reports_fold name rs bs n [] qs en in
-    fold_parts (record { name = name; window = w; items = is; builds = bs; reports = numbered 0 rs }) (told es)
+    let reports = part_told (edited_reports name) name bounds bs n w [] qs is es (numbered_reports 0 rs) (λ z m. refl) (λ z i. refl) a ∙ reports_fold name rs bs n [] qs en in
+    fold_parts (record { name = name; window = w; items = is; builds = bs; reports = numbered_reports 0 rs }) (told es)
     ∙ (λ k. record { name = name; window = windows k; items = items_are k; builds = builds k; reports = reports k })
     ∙ sym (edits_make name bounds w n bs is ps rs en g r rb)
     ∙ settles name bounds w n bs is ls ps rs items en g r rb

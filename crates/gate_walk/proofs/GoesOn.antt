@@ -6,7 +6,7 @@ use Rattle.std.proofs.lemmas.Bool.{lt-ltb, le-ltb, ltb-true, le-leb, leb-true}
 use Rattle.gate_types.specs.Window.{Bounds}
 use Rattle.gate_types.specs.Rising.{RisesFrom}
 use Rattle.gate_types.specs.declared.edits.Edit.{Edit}
-use Rattle.gate_walk.specs.Walk.{Seen, Carry, visit_edits, carried, asks_for, walk_edits, walk_from}
+use Rattle.gate_walk.specs.Walk.{Seen, Carry, visit_edits, carried, is_asked_for, walk_edits, walk_from}
 use Rattle.gate_walk.specs.Next.{untold, VisitsGoOn}
 use Rattle.gate_queue_rules.proofs.Ordered.{AllBelow, rises}
 use Rattle.gate_walk.specs.Rescan.{row_seen}
@@ -46,14 +46,14 @@ goes_on name bounds n m k us [] b r = refl
 goes_on name bounds n m k us (v ∷ vs) b r =
     let low : m ≤ v.row.serial = r.0 in
     let under = below_up m v.row.serial us low b in
-    by_both (above n v) refl (asks_for k v) refl under
+    by_both (above n v) refl (is_asked_for k v) refl under
     (ap (λ l. told_by name bounds k (find (test_of k n) vs) l) (append_assoc us (v ∷ []) vs))
     (goes_on name bounds n (suc v.row.serial) k (us ++ v ∷ []) vs (below_push (suc v.row.serial) us v (below_up v.row.serial (suc v.row.serial) us (omega arith) under) (omega arith)) r.1)
   where
-    by_both : (x : Bool) → above n v ≡ x → (y : Bool) → asks_for k v ≡ y → AllBelow seen_serial v.row.serial us →
+    by_both : (x : Bool) → above n v ≡ x → (y : Bool) → is_asked_for k v ≡ y → AllBelow seen_serial v.row.serial us →
         told_by name bounds k (find (test_of k n) vs) ((us ++ v ∷ []) ++ vs) ≡ told_by name bounds k (find (test_of k n) vs) (us ++ v ∷ vs) →
         walk_edits name bounds k (filter (above n) vs) ≡ told_by name bounds k (find (test_of k n) vs) ((us ++ v ∷ []) ++ vs) →
-        walk_edits name bounds k (cond x (v ∷ filter (above n) vs) (filter (above n) vs)) ≡ told_by name bounds k (cond (x && asks_for k v) (Some v) (find (test_of k n) vs)) (us ++ v ∷ vs)
+        walk_edits name bounds k (cond x (v ∷ filter (above n) vs) (filter (above n) vs)) ≡ told_by name bounds k (cond (x && is_asked_for k v) (Some v) (find (test_of k n) vs)) (us ++ v ∷ vs)
     by_both false ex y ey under same rest = rest ∙ same
     by_both true ex false ey under same rest =
         ap (λ t. cond t (visit_edits name bounds k v ++ walk_edits name bounds (carried bounds k v) (filter (above n) vs)) (walk_edits name bounds k (filter (above n) vs))) ey

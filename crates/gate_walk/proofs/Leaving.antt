@@ -17,7 +17,7 @@ use Rattle.gate_types.specs.Sweep.{without_runs, without_plans}
 use Rattle.gate_types.specs.Step.{left_queue, leave, with_stage, revised, landed_queue, landed_plan, with_landing}
 use Rattle.gate_types.specs.Lawful.{IsSound}
 use Rattle.gate_types.specs.Rising.{In}
-use Rattle.gate_walk.specs.Rescan.{need_behind, place_behind}
+use Rattle.gate_walk.specs.Rescan.{need_behind, place_after_landing}
 use Rattle.gate_walk.specs.Kinds.{IsIn, ItemsLeave}
 use Rattle.gate_laws.proofs.Tests.{flipped}
 use Rattle.gate_laws.proofs.Plans.{plan_stays, plan_kept, same_place, other_stays}
@@ -157,7 +157,7 @@ kept_place c s k q o i j en lk ls eo d =
 
 -- of one that has landed
 landed_other : (c : Settings) (s : State) (k : Change) (q o : Queue) (i j : Item) → k.number ≡ i.change → is_landed k ≡ true → o.landings ≡ q.landings ++ record { serial = i.serial; change = i.change; revision = i.revision } ∷ [] → (i.change == j.change) ≡ false →
-    place_of c (put_change k s) o j ≡ place_behind i (place_of c s q j)
+    place_of c (put_change k s) o j ≡ place_after_landing i (place_of c s q j)
 landed_other c s k q o i j en lk eo d =
     let t = put_change k s in
     let same : change_of t j.change ≡ change_of s j.change = change_put k s j.change ∙ ap (λ x. cond x k (change_of s j.change)) (ap (λ n. n == j.change) en ∙ d) in
@@ -267,8 +267,8 @@ items_leave = record {
         places = each (place_of c (with_landing c n (record { queue = q; item = i }) s) o) (place_of c (with_stage stage.Landed i.change s) o) (is ++ js)
             (λ j m. same_place c (with_stage stage.Landed i.change s) (with_landing c n (record { queue = q; item = i }) s) o o j refl refl
             (plan_kept (landed_plan s i.serial) (without_plans (leaves s i.change) s.plans) j.serial (g.apart j m) ∙ plan_stays (leaves s i.change) s.plans j.serial (g.stay j m)))
-            ∙ each (place_of c (with_stage stage.Landed i.change s) o) (λ j. place_behind i (place_of c s q j)) (is ++ js)
+            ∙ each (place_of c (with_stage stage.Landed i.change s) o) (λ j. place_after_landing i (place_of c s q j)) (is ++ js)
             (λ j m. landed_other c s k q o i j (number_itself s i.change) refl refl (g.differ j m))
-            ∙ map_twice (place_behind i) (place_of c s q) (is ++ js);
+            ∙ map_twice (place_after_landing i) (place_of c s q) (is ++ js);
       };
 }

@@ -7,8 +7,8 @@ use Rattle.std.proofs.lemmas.Bool.{lt-ltb, le-ltb, eqb-true}
 use Rattle.gate_types.specs.Window.{Bounds}
 use Rattle.gate_types.specs.Rising.{RisesFrom}
 use Rattle.gate_types.specs.declared.edits.Edit.{Edit}
-use Rattle.gate_walk.specs.Walk.{Seen, SeenNeed, Carry, needs_gone, fails, visit_edits, carried, asks_for, walk_edits}
-use Rattle.gate_walk.specs.Rescan.{start}
+use Rattle.gate_walk.specs.Walk.{Seen, SeenNeed, Carry, needs_gone, fails, visit_edits, carried, is_asked_for, walk_edits}
+use Rattle.gate_walk.specs.Rescan.{walk_start}
 use Rattle.gate_walk.specs.Next.{go, need, stop, next_of, wanted, visits_from, VisitsAreTheWalk, WalkStops}
 use Rattle.gate_queue_rules.proofs.Ordered.{AllBelow, rises}
 use Rattle.gate_laws.proofs.Tests.{and_true}
@@ -18,7 +18,7 @@ seen_serial v = v.row.serial
 
 -- the test of the row that is wanted, by what is carried
 abbrev pub test_of : Carry → ℕ → Seen → Bool
-test_of k n v = nat_lt n v.row.serial && asks_for k v
+test_of k n v = nat_lt n v.row.serial && is_asked_for k v
 
 nothing_gone : (gone : List ℕ) (needs : List SeenNeed) → (length gone == 0) ≡ true → needs_gone gone needs ≡ false
 nothing_gone [] needs h = none needs
@@ -68,7 +68,7 @@ pub passed : (k : Carry) (n : ℕ) (us : List Seen) → AllBelow seen_serial (su
 passed k n [] h = refl
 passed k n (u ∷ us) h =
     let low : u.row.serial < suc n = h.0 in
-    ap (λ t. cond (t && asks_for k u) (Some u) (find (test_of k n) us)) (le-ltb n u.row.serial (omega arith)) ∙ passed k n us h.1
+    ap (λ t. cond (t && is_asked_for k u) (Some u) (find (test_of k n) us)) (le-ltb n u.row.serial (omega arith)) ∙ passed k n us h.1
 
 pub below_push : (n : ℕ) (us : List Seen) (v : Seen) → AllBelow seen_serial n us → v.row.serial < n → AllBelow seen_serial n (us ++ v ∷ [])
 below_push n [] v h l = (l, tt)
@@ -95,16 +95,16 @@ visits_walk m name bounds n low k us [] few l b r f = ended m
 visits_walk m name bounds n low k us (v ∷ vs) few l b r f =
     let high : low ≤ v.row.serial = r.0 in
     let above : nat_lt n v.row.serial ≡ true = lt-ltb n v.row.serial (omega arith) in
-    by_test m (asks_for k v) refl above few
+    by_test m (is_asked_for k v) refl above few
     (λ j k2 enough. visits_walk j name bounds v.row.serial (suc v.row.serial) k2 (us ++ v ∷ []) vs enough (omega arith) (below_push (suc v.row.serial) us v (below_up low (suc v.row.serial) us (omega arith) b) (omega arith)) r.1
     (passed k2 v.row.serial (us ++ v ∷ []) (below_push (suc v.row.serial) us v (below_up low (suc v.row.serial) us (omega arith) b) (omega arith))))
     (λ no enough. visits_walk m name bounds n (suc v.row.serial) k (us ++ v ∷ []) vs enough (omega arith) (below_push (suc v.row.serial) us v (below_up low (suc v.row.serial) us (omega arith) b) (omega arith)) r.1
     (find_push (test_of k n) us v f (ap (λ t. nat_lt n v.row.serial && t) no ∙ and_off (nat_lt n v.row.serial))))
   where
-    by_test : (m2 : ℕ) (t : Bool) → asks_for k v ≡ t → nat_lt n v.row.serial ≡ true → length (v ∷ vs) ≤ m2 →
+    by_test : (m2 : ℕ) (t : Bool) → is_asked_for k v ≡ t → nat_lt n v.row.serial ≡ true → length (v ∷ vs) ≤ m2 →
         ((j : ℕ) (k2 : Carry) → length vs ≤ j → visits_from j name bounds (next_of k2 v.row.serial) k2 ((us ++ v ∷ []) ++ vs) ≡ walk_edits name bounds k2 vs) →
-        (asks_for k v ≡ false → length vs ≤ m2 → visits_from m2 name bounds (next_of k n) k ((us ++ v ∷ []) ++ vs) ≡ walk_edits name bounds k vs) →
-        visits_from m2 name bounds (next_of k n) k (us ++ v ∷ vs) ≡ cond (asks_for k v) (visit_edits name bounds k v ++ walk_edits name bounds (carried bounds k v) vs) (walk_edits name bounds k vs)
+        (is_asked_for k v ≡ false → length vs ≤ m2 → visits_from m2 name bounds (next_of k n) k ((us ++ v ∷ []) ++ vs) ≡ walk_edits name bounds k vs) →
+        visits_from m2 name bounds (next_of k n) k (us ++ v ∷ vs) ≡ cond (is_asked_for k v) (visit_edits name bounds k v ++ walk_edits name bounds (carried bounds k v) vs) (walk_edits name bounds k vs)
     by_test zero t e above few2 there on = absurd (omega (arith, few2))
     by_test (suc j) true e above few2 there on =
         let k2 = carried bounds k v in
@@ -129,7 +129,7 @@ off false = refl
 pub walk_stops : WalkStops
 walk_stops = record {
   at_once = λ bounds reports window ahead v m g.
-      let k = start None ahead reports window in
+      let k = walk_start None ahead reports window in
       (λ i. cond ((false || m i && not v.row.failing) || (false && fails k v)) (go v.row.serial) (cond (length (cond (is_some (g i)) ([] ++ v.row.change ∷ []) []) == 0) stop (need v.row.serial)))
       ∙ ap (λ t. cond (t || false) (go v.row.serial) stop) (off v.row.failing);
   keeps_lines = λ bounds k v r m. (λ i. r i || m i && not v.row.failing) ∙ off v.row.failing;

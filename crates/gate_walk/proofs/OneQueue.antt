@@ -10,10 +10,10 @@ use Rattle.gate_types.specs.declared.edits.Edit.{Edit}
 use Rattle.gate_types.specs.State.{Item, has_change}
 use Rattle.gate_types.specs.Line.{Place}
 use Rattle.gate_types.specs.Standing.{is_failing, with_ahead, next_ahead, places_after}
-use Rattle.gate_types.specs.Rows.{Rows, row_of, numbered, fold_edits}
+use Rattle.gate_types.specs.Rows.{Rows, row_of, numbered_reports, fold_edits}
 use Rattle.gate_types.specs.Rising.{RisesFrom}
 use Rattle.gate_queue_rules.specs.Settled.{settled_rows}
-use Rattle.gate_walk.specs.Walk.{Seen, Carry, asks_for, carried, visit_edits, walk_from}
+use Rattle.gate_walk.specs.Walk.{Seen, Carry, is_asked_for, carried, visit_edits, walk_from}
 use Rattle.gate_walk.specs.Rescan.{settled_to}
 use Rattle.gate_queue_rules.proofs.Ordered.{GoWith, row_serial, build_number, ahead_rise, ahead_with}
 use Rattle.gate_walk.proofs.Slots.{all_count}
@@ -65,7 +65,7 @@ rise_back n (i ∷ is) (p ∷ ps) g r =
 
 -- the rows of a queue before the walk: its items by what they were, all else as it is
 abbrev pub stale : List ℕ → ℕ → List ItemRow → List Build → List Report → Rows
-stale name w is cs rs = record { name = name; window = w; items = is; builds = cs; reports = numbered 0 rs }
+stale name w is cs rs = record { name = name; window = w; items = is; builds = cs; reports = numbered_reports 0 rs }
 
 rows_of_many : (bs : List Build) (ahead : List Item) (ps : List Place) → length (map (row_of bs) (places_after bs ahead ps)) ≡ length ps
 rows_of_many bs ahead [] = refl
@@ -113,7 +113,7 @@ rows_append (u ∷ us) vs = ap (λ l. u.row ∷ l) (rows_append us vs)
 
 asked_many : (name : List ℕ) (bounds : Bounds) (k : Carry) (vs : List Seen) → length (asked name bounds k vs) ≡ length vs
 asked_many name bounds k [] = refl
-asked_many name bounds k (v ∷ vs) = by_test (asks_for k v) (asked_many name bounds (carried bounds k v) vs) (asked_many name bounds k vs)
+asked_many name bounds k (v ∷ vs) = by_test (is_asked_for k v) (asked_many name bounds (carried bounds k v) vs) (asked_many name bounds k vs)
   where
     by_test : (t : Bool) → length (asked name bounds (carried bounds k v) vs) ≡ length vs → length (asked name bounds k vs) ≡ length vs →
         length (cond t (Some (visit_edits name bounds k v) ∷ asked name bounds (carried bounds k v) vs) (None ∷ asked name bounds k vs)) ≡ suc (length vs)

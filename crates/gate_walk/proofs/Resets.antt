@@ -21,7 +21,7 @@ use Rattle.gate_types.specs.Standing.{is_failing, with_ahead, next_ahead, places
 use Rattle.gate_types.specs.Sweep.{verdict_of, fails_for_good, judge, next_staying}
 use Rattle.gate_types.specs.Rows.{row_of}
 use Rattle.gate_queue_rules.specs.Edits.{stops, next_reports, window_behind}
-use Rattle.gate_walk.specs.Walk.{Seen, Mark, Carry, fails, verdict_by, window_edits_by, visit_edits, carried, asks_for}
+use Rattle.gate_walk.specs.Walk.{Seen, Mark, Carry, fails, verdict_by, window_edits_by, visit_edits, carried, is_asked_for}
 use Rattle.gate_walk.proofs.Slots.{is_live_of, live_of, all_count, all_ended, EndedIfCut, Lost, counts_no_more}
 use Rattle.gate_walk.proofs.Slots.{none_counts}
 use Rattle.gate_walk.proofs.Steps.{seen, Known, Sees, known_visited, blocked_seen, met_seen, fails_seen, verdict_seen}
@@ -46,7 +46,7 @@ Right name bounds bs n w staying _ _ _ = ⊥
 -- the edits of each row that is asked for
 abbrev pub asked : List ℕ → Bounds → Carry → List Seen → List (Option (List Edit))
 asked name bounds k [] = []
-asked name bounds k (v ∷ vs) = cond (asks_for k v) (Some (visit_edits name bounds k v) ∷ asked name bounds (carried bounds k v) vs) (None ∷ asked name bounds k vs)
+asked name bounds k (v ∷ vs) = cond (is_asked_for k v) (Some (visit_edits name bounds k v) ∷ asked name bounds (carried bounds k v) vs) (None ∷ asked name bounds k vs)
 
 abbrev pub rows_seen : List Seen → List ItemRow
 rows_seen vs = map (λ v. v.row) vs

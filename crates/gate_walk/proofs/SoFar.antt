@@ -11,11 +11,11 @@ use Rattle.gate_types.specs.declared.edits.Edit.{Edit}
 use Rattle.gate_types.specs.State.{Item}
 use Rattle.gate_types.specs.Line.{Place}
 use Rattle.gate_types.specs.Sweep.{judge, judged_after, next_staying, verdict_of, goes}
-use Rattle.gate_types.specs.Rows.{numbered, row_of, fold_edits, edited_items, edited_builds, edited_reports}
+use Rattle.gate_types.specs.Rows.{numbered_reports, row_of, fold_edits, edited_items, edited_builds, edited_reports}
 use Rattle.gate_types.specs.Rising.{RisesFrom}
 use Rattle.gate_queue_rules.specs.Edits.{next_reports, window_behind}
 use Rattle.gate_walk.specs.Rescan.{settled_to}
-use Rattle.gate_walk.specs.Walk.{Seen, Carry, asks_for, carried, visit_edits, window_edits_by}
+use Rattle.gate_walk.specs.Walk.{Seen, Carry, is_asked_for, carried, visit_edits, window_edits_by}
 use Rattle.gate_queue_rules.proofs.Ordered.{AllBelow, GoWith, Tells, row_serial, build_number}
 use Rattle.gate_queue_rules.proofs.Folds.{fold_parts, below_kept, below_more, kept, kept_cons, reports_fold}
 use Rattle.gate_laws.proofs.Stays.{stayers}
@@ -42,13 +42,13 @@ right_first name bounds bs n w staying (p ∷ ps) qs (i ∷ is) js (e ∷ es) fs
 -- what is carried behind rows
 abbrev pub carried_on : List ℕ → Bounds → Carry → List Seen → Carry
 carried_on name bounds k [] = k
-carried_on name bounds k (v ∷ vs) = carried_on name bounds (cond (asks_for k v) (carried bounds k v) k) vs
+carried_on name bounds k (v ∷ vs) = carried_on name bounds (cond (is_asked_for k v) (carried bounds k v) k) vs
 
 -- a walk over rows and then more rows
 pub asked_more : (name : List ℕ) (bounds : Bounds) (k : Carry) (us vs : List Seen) → asked name bounds k (us ++ vs) ≡ asked name bounds k us ++ asked name bounds (carried_on name bounds k us) vs
 asked_more name bounds k [] vs = refl
 asked_more name bounds k (u ∷ us) vs =
-    by_test (asks_for k u) (asked_more name bounds (carried bounds k u) us vs) (asked_more name bounds k us vs)
+    by_test (is_asked_for k u) (asked_more name bounds (carried bounds k u) us vs) (asked_more name bounds k us vs)
   where
     by_test : (t : Bool) → asked name bounds (carried bounds k u) (us ++ vs) ≡ asked name bounds (carried bounds k u) us ++ asked name bounds (carried_on name bounds (carried bounds k u) us) vs →
         asked name bounds k (us ++ vs) ≡ asked name bounds k us ++ asked name bounds (carried_on name bounds k us) vs →
@@ -96,12 +96,12 @@ items_so_far name bounds bs n m w staying leaves done (i ∷ is) tail (p ∷ ps)
 -- so it is with the fold of what was told of the first rows
 pub told_so_far : (name : List ℕ) (bounds : Bounds) (w : ℕ) (bs : List Build) (qs : List Place) (is behind : List ItemRow) (ls : List Landing) (items : List Item) (rs : List Report) (es : List (Option (List Edit))) →
     GoWith is qs → RisesFrom row_serial 0 (is ++ behind) → RisesFrom place_serial 0 qs → RisesFrom build_number 0 bs → Right name bounds bs (length rs) w [] qs is es →
-    fold_edits (record { name = name; window = w; items = is ++ behind; builds = bs; reports = numbered 0 rs }) (told es) ≡ settled_to bounds bs qs behind (record { name = name; window = w; landings = ls; items = items; reports = rs })
+    fold_edits (record { name = name; window = w; items = is ++ behind; builds = bs; reports = numbered_reports 0 rs }) (told es) ≡ settled_to bounds bs qs behind (record { name = name; window = w; landings = ls; items = items; reports = rs })
 told_so_far name bounds w bs qs is behind ls items rs es g r rq rb a =
     let js = judged_after bs [] qs in
     let windows = window_told name bounds bs (length rs) w [] qs is es a in
     let items = items_so_far name bounds bs (length rs) 0 w [] (goes js) [] is behind qs es tt r g (goes_tells bs 0 [] qs rq) a in
     let builds = part_told (edited_builds name) name bounds bs (length rs) w [] qs is es bs (λ z m. refl) (λ z i. refl) a ∙ builds_fold name bs (length rs) qs rb rq in
-    let reports = part_told (edited_reports name) name bounds bs (length rs) w [] qs is es (numbered 0 rs) (λ z m. refl) (λ z i. refl) a ∙ reports_fold name rs bs (length rs) [] qs refl in
-    fold_parts (record { name = name; window = w; items = is ++ behind; builds = bs; reports = numbered 0 rs }) (told es)
+    let reports = part_told (edited_reports name) name bounds bs (length rs) w [] qs is es (numbered_reports 0 rs) (λ z m. refl) (λ z i. refl) a ∙ reports_fold name rs bs (length rs) [] qs refl in
+    fold_parts (record { name = name; window = w; items = is ++ behind; builds = bs; reports = numbered_reports 0 rs }) (told es)
     ∙ (λ k. record { name = name; window = windows k; items = items k; builds = builds k; reports = reports k })

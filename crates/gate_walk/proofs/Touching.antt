@@ -21,7 +21,7 @@ use Rattle.gate_types.specs.Step.{end_build}
 use Rattle.gate_types.specs.Lawful.{IsSound, is_single}
 use Rattle.gate_types.specs.Rising.{RisesFrom, In}
 use Rattle.gate_walk.specs.Walk.{Seen, Carry}
-use Rattle.gate_walk.specs.Rescan.{settled_to, Walks, IsCalm, standing_in, row_seen, TakenOut, start, stored}
+use Rattle.gate_walk.specs.Rescan.{settled_to, Walks, IsCalm, standing_in, row_seen, TakenOut, walk_start, stored}
 use Rattle.gate_walk.specs.Rescan.{without_row, rows_from, ahead_at, fails_at, WalkAfterBuild, WalkAfterLeaving}
 use Rattle.gate_walk.specs.Rescan.{WalkAfterLanding}
 use Rattle.gate_laws.proofs.Members.{every, all, to_right, to_left, to_flat}
@@ -184,10 +184,10 @@ walk_after_leaving c s t qs rs q o is js i bounds sound rest eq ei left =
     let out : Bool → TakenOut = λ f. record { change = i.change; failing = f; landed = false } in
     let places_are : front ++ behind ≡ map (place_of c t o) o.items = sym (ap (map (place_of c t o)) left.items ∙ left.places ∙ map-append place is js) in
     let goal : List ItemRow → Type 0 = λ rows. (let left_rows = without_row i.serial rows in
-    Walks bounds o left_rows cs (map (place_of c t o) o.items) (start (Some (out (fails_at i.serial rows))) (ahead_at i.serial rows) (length o.reports) o.window) (row_seen c t left_rows) (rows_from i.serial left_rows)) in
+    Walks bounds o left_rows cs (map (place_of c t o) o.items) (walk_start (Some (out (fails_at i.serial rows))) (ahead_at i.serial rows) (length o.reports) o.window) (row_seen c t left_rows) (rows_from i.serial left_rows)) in
     let k = carry_left bs front p (length o.reports) o.window in
     subst goal (sym rows_are)
-    (cast (λ j. Walks bounds o (sym pt.left j) cs (map (place_of c t o) o.items) (start (Some (out (sym pt.fails j))) (sym pt.ahead j) (length o.reports) o.window) (row_seen c t (sym pt.left j)) (sym (ap (rows_from i.serial) pt.left ∙ pt.from_behind) j))
+    (cast (λ j. Walks bounds o (sym pt.left j) cs (map (place_of c t o) o.items) (walk_start (Some (out (sym pt.fails j))) (sym pt.ahead j) (length o.reports) o.window) (row_seen c t (sym pt.left j)) (sym (ap (rows_from i.serial) pt.left ∙ pt.from_behind) j))
     (walks bounds o (xs ++ ys) cs (map (place_of c t o) o.items) k (row_seen c t (xs ++ ys)) ys (λ r. refl)
     (cast (λ j. Walked o.name bounds o.window cs (xs ++ ys) (places_are j) o.reports k (sym seen j)) (walk_left o.name bounds o.window stand bs cs front p behind o.reports h))))
 
@@ -245,10 +245,10 @@ walk_after_build c s qs rs q is js i b e bounds sound rest eq ei cb run own_buil
     } in
     let sb = still_quiet stand i.serial bs cs (before ++ i ∷ []) was behind elsewhere others.1 parts.1.1 in
     let seen : map (row_seen c t all) ys ≡ visits stand cs same was behind = ap (map (row_seen c t all)) (sym sb.rows) ∙ rows_are_seen c t all same was behind (now_same c s q e b.number js) in
-    let goal : List ItemRow → Type 0 = λ rows. Walks bounds q rows cs (map place q.items) (start None (ahead_at i.serial rows) (length q.reports) q.window) (row_seen c t rows) (rows_from i.serial rows) in
-    let k = start None own.ahead (length q.reports) q.window in
+    let goal : List ItemRow → Type 0 = λ rows. Walks bounds q rows cs (map place q.items) (walk_start None (ahead_at i.serial rows) (length q.reports) q.window) (row_seen c t rows) (rows_from i.serial rows) in
+    let k = walk_start None own.ahead (length q.reports) q.window in
     subst goal (sym rows_are)
-    (cast (λ j. Walks bounds q all cs (map place q.items) (start None (sym pt.ahead j) (length q.reports) q.window) (row_seen c t all) (sym pt.from_own j))
+    (cast (λ j. Walks bounds q all cs (map place q.items) (walk_start None (sym pt.ahead j) (length q.reports) q.window) (row_seen c t all) (sym pt.from_own j))
     (walks bounds q all cs (map place q.items) k (row_seen c t all) (own ∷ ys) (λ r. refl)
     (cast (λ j. Walked q.name bounds q.window cs (rows_split bs [] front (p ∷ behind) j) (sym calm.split j) q.reports k (row_seen c t all own ∷ sym seen j)) (walk_standing q.name bounds q.window stand bs cs front p behind q.reports h))))
 
@@ -338,8 +338,8 @@ walk_after_landing c s t qs rs q o is js i bounds sound rest eq ei left first pa
     let places_are : map now front ++ map now behind ≡ map (place_of c t o) o.items =
     sym (ap (map (place_of c t o)) left.items ∙ left.places ∙ ap (map now) (map-append place is js) ∙ map-append now front behind) in
     let goal : List ItemRow → Type 0 = λ rows. (let left_rows = without_row i.serial rows in
-    Walks bounds o left_rows cs (map (place_of c t o) o.items) (start (Some out) None (length o.reports) o.window) (row_seen c t left_rows) (rows_from i.serial left_rows)) in
-    let k = start (Some out) None (length o.reports) o.window in
+    Walks bounds o left_rows cs (map (place_of c t o) o.items) (walk_start (Some out) None (length o.reports) o.window) (row_seen c t left_rows) (rows_from i.serial left_rows)) in
+    let k = walk_start (Some out) None (length o.reports) o.window in
     subst goal (sym rows_are)
     (cast (λ j. Walks bounds o (sym pt.left j) cs (map (place_of c t o) o.items) k (row_seen c t (sym pt.left j)) (sym (ap (rows_from i.serial) pt.left ∙ pt.from_behind) j))
     (walks bounds o (xs ++ ys) cs (map (place_of c t o) o.items) k (row_seen c t (xs ++ ys)) ys (λ r. refl)

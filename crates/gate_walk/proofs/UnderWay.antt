@@ -10,19 +10,19 @@ use Rattle.gate_types.specs.declared.edits.Edit.{Edit}
 use Rattle.gate_types.specs.Standing.{places_after}
 use Rattle.gate_types.specs.Rows.{fold_edits}
 use Rattle.gate_types.specs.Rising.{RisesFrom}
-use Rattle.gate_walk.specs.Walk.{Seen, Carry, Walk, behind_visit, fails, verdict_by, visit_edits, carried, asks_for}
+use Rattle.gate_walk.specs.Walk.{Seen, Carry, Walk, behind_visit, fails, verdict_by, visit_edits, carried, is_asked_for}
 use Rattle.gate_walk.specs.Walk.{walk_edits, walk_from}
 use Rattle.gate_walk.specs.Next.{need, stop, next_of, wanted}
-use Rattle.gate_walk.specs.Rescan.{start, stored, ahead_at, row_seen, rows_from, settled_to}
+use Rattle.gate_walk.specs.Rescan.{walk_start, stored, ahead_at, row_seen, rows_from, settled_to}
 use Rattle.gate_walk.specs.Delivery.{IsWalked, build_ended, touch_of, begins}
 use Rattle.gate_walk.specs.declared.walk.QueueFacts.{QueueFacts}
 use Rattle.gate_walk.specs.declared.walk.Touched.{Touched}
 use Rattle.gate_walk.specs.TakenOut.{out_of}
 use Rattle.gate_walk.specs.declared.walk.Next.{Next as CodeNext}
 use Rattle.gate_walk.specs.Views.{next_of_code}
-use Rattle.gate_walk.specs.UnderWay.{Delivered, queue_after, bounds_after, stale_rows, tables, places_of}
-use Rattle.gate_walk.specs.UnderWay.{tables_settled, tables_settled_below, begun, rows_seen, walk_by, next_by}
-use Rattle.gate_walk.specs.UnderWay.{row_wanted, AreWanted, HasVisited, IsBehind, rows_walked, IsFor, Starts, GoesOn}
+use Rattle.gate_walk.specs.UnderWay.{Delivered, queue_after, bounds_after, stale_rows, delivered_rows, places_of}
+use Rattle.gate_walk.specs.UnderWay.{tables_settled, tables_settled_below, begun_walk, rows_seen, walk_by, next_by}
+use Rattle.gate_walk.specs.UnderWay.{row_wanted, AreWanted, HasVisited, IsBehindLast, rows_walked, IsFor, Starts, GoesOn}
 use Rattle.gate_walk.specs.UnderWay.{Ends, Visits}
 use Rattle.gate_laws.proofs.Members.{found}
 use Rattle.gate_laws.proofs.LiveBuildsCount.{place_serial}
@@ -52,7 +52,7 @@ rows_on x = onward seen_serial x.item.serial (rows_seen x)
 
 -- what is told of the first of them
 abbrev told_by : Delivered → List Seen → List Edit
-told_by x us = walk_from (queue_after x).name (bounds_after x) (begun x) us
+told_by x us = walk_from (queue_after x).name (bounds_after x) (begun_walk x) us
 
 under_seen : (x : Delivered) (p : ℕ) (rows : List ItemRow) → under seen_serial p (map (see x) rows) ≡ map (see x) (under row_serial p rows)
 under_seen x p [] = refl
@@ -100,7 +100,7 @@ rows_rise x = back 0 (stale_rows x) (seen_rise x)
 -- ---- how far the queue is settled
 
 -- what is told of the rows below a serial settles the queue below it
-settled_under : (x : Delivered) (p : ℕ) → x.item.serial ≤ p → fold_edits (tables x) (told_by x (under seen_serial p (rows_on x))) ≡ tables_settled_below x p
+settled_under : (x : Delivered) (p : ℕ) → x.item.serial ≤ p → fold_edits (delivered_rows x) (told_by x (under seen_serial p (rows_on x))) ≡ tables_settled_below x p
 settled_under x p l =
     let w = (walked x).walks in
     let i = x.item.serial in
@@ -110,13 +110,13 @@ settled_under x p l =
     let rest = onward_onward row_serial i p (stale_rows x) l in
     let many : length (onward place_serial p ps) ≡ length (onward row_serial p last) =
     onward_many place_serial p ps ∙ ap (λ ns. length (filter (λ n. nat_le p n) ns)) (sym w.rows_of_places) ∙ sym (onward_many row_serial p (stale_rows x)) ∙ ap length (sym rest) in
-    ap (λ us. fold_edits (tables x) (told_by x us)) (ap (under seen_serial p) (onward_seen x i (stale_rows x)) ∙ under_seen x p last)
+    ap (λ us. fold_edits (delivered_rows x) (told_by x us)) (ap (under seen_serial p) (onward_seen x i (stale_rows x)) ∙ under_seen x p last)
     ∙ w.so_far (under row_serial p last) (onward row_serial p last) (under place_serial p ps) (onward place_serial p ps) (cut row_serial p i last rise) (cut place_serial p 0 ps (rises place_serial ps w.places_rise)) many
     ∙ ap (λ rows. settled_to (bounds_after x) x.after.builds (places_after x.after.builds [] (under place_serial p ps)) rows (queue_after x)) rest
 
 -- all that is told settles all of it
-settled_all : (x : Delivered) → fold_edits (tables x) (told_by x (rows_on x)) ≡ tables_settled x
-settled_all x = ap (λ us. fold_edits (tables x) (told_by x us)) (onward_seen x x.item.serial (stale_rows x)) ∙ (walked x).settles
+settled_all : (x : Delivered) → fold_edits (delivered_rows x) (told_by x (rows_on x)) ≡ tables_settled x
+settled_all x = ap (λ us. fold_edits (delivered_rows x) (told_by x us)) (onward_seen x x.item.serial (stale_rows x)) ∙ (walked x).settles
 
 -- what is carried after visits, and what was told
 abbrev carry_by : Delivered → List Seen → Carry
@@ -147,16 +147,16 @@ edits_next x v vs = λ k. edits_by x vs ++ visit_edits (name_same x vs k) (bound
 
 -- what is carried behind rows, the first of which is asked for whatever is carried
 abbrev carry_behind : Delivered → List Seen → Carry
-carry_behind x [] = begun x
-carry_behind x (u ∷ us) = carried_on (queue_after x).name (bounds_after x) (carried (bounds_after x) (begun x) u) us
+carry_behind x [] = begun_walk x
+carry_behind x (u ∷ us) = carried_on (queue_after x).name (bounds_after x) (carried (bounds_after x) (begun_walk x) u) us
 
 carried_more : (name : List ℕ) (bounds : Bounds) (k : Carry) (us vs : List Seen) → carried_on name bounds k (us ++ vs) ≡ carried_on name bounds (carried_on name bounds k us) vs
 carried_more name bounds k [] vs = refl
-carried_more name bounds k (u ∷ us) vs = carried_more name bounds (cond (asks_for k u) (carried bounds k u) k) us vs
+carried_more name bounds k (u ∷ us) vs = carried_more name bounds (cond (is_asked_for k u) (carried bounds k u) k) us vs
 
 edits_more : (name : List ℕ) (bounds : Bounds) (k : Carry) (us vs : List Seen) → walk_edits name bounds k (us ++ vs) ≡ walk_edits name bounds k us ++ walk_edits name bounds (carried_on name bounds k us) vs
 edits_more name bounds k [] vs = refl
-edits_more name bounds k (u ∷ us) vs = by_test (asks_for k u) (edits_more name bounds (carried bounds k u) us vs) (edits_more name bounds k us vs)
+edits_more name bounds k (u ∷ us) vs = by_test (is_asked_for k u) (edits_more name bounds (carried bounds k u) us vs) (edits_more name bounds k us vs)
   where
     by_test : (t : Bool) → walk_edits name bounds (carried bounds k u) (us ++ vs) ≡ walk_edits name bounds (carried bounds k u) us ++ walk_edits name bounds (carried_on name bounds (carried bounds k u) us) vs →
         walk_edits name bounds k (us ++ vs) ≡ walk_edits name bounds k us ++ walk_edits name bounds (carried_on name bounds k us) vs →
@@ -166,33 +166,33 @@ edits_more name bounds k (u ∷ us) vs = by_test (asks_for k u) (edits_more name
     by_test false a b = b
 
 -- rows that aren't asked for change nothing
-unasked_carry : (name : List ℕ) (bounds : Bounds) (k : Carry) (vs : List Seen) → AllFail (asks_for k) vs → carried_on name bounds k vs ≡ k
+unasked_carry : (name : List ℕ) (bounds : Bounds) (k : Carry) (vs : List Seen) → AllFail (is_asked_for k) vs → carried_on name bounds k vs ≡ k
 unasked_carry name bounds k [] h = refl
 unasked_carry name bounds k (v ∷ vs) h = ap (λ t. carried_on name bounds (cond t (carried bounds k v) k) vs) h.0 ∙ unasked_carry name bounds k vs h.1
 
-unasked_edits : (name : List ℕ) (bounds : Bounds) (k : Carry) (vs : List Seen) → AllFail (asks_for k) vs → walk_edits name bounds k vs ≡ []
+unasked_edits : (name : List ℕ) (bounds : Bounds) (k : Carry) (vs : List Seen) → AllFail (is_asked_for k) vs → walk_edits name bounds k vs ≡ []
 unasked_edits name bounds k [] h = refl
 unasked_edits name bounds k (v ∷ vs) h = ap (λ t. cond t (visit_edits name bounds k v ++ walk_edits name bounds (carried bounds k v) vs) (walk_edits name bounds k vs)) h.0 ∙ unasked_edits name bounds k vs h.1
 
 -- the same behind rows of which the last is that of some visit
 carry_on : (x : Delivered) (us : List Seen) (u : Seen) (vs : List Seen) → carry_behind x ((us ++ u ∷ []) ++ vs) ≡ carried_on (queue_after x).name (bounds_after x) (carry_behind x (us ++ u ∷ [])) vs
 carry_on x [] u vs = refl
-carry_on x (y ∷ us) u vs = carried_more (queue_after x).name (bounds_after x) (carried (bounds_after x) (begun x) y) (us ++ u ∷ []) vs
+carry_on x (y ∷ us) u vs = carried_more (queue_after x).name (bounds_after x) (carried (bounds_after x) (begun_walk x) y) (us ++ u ∷ []) vs
 
 told_on : (x : Delivered) (us : List Seen) (u : Seen) (vs : List Seen) → told_by x ((us ++ u ∷ []) ++ vs) ≡ told_by x (us ++ u ∷ []) ++ walk_edits (queue_after x).name (bounds_after x) (carry_behind x (us ++ u ∷ [])) vs
-told_on x [] u vs = ap (λ l. l ++ walk_edits (queue_after x).name (bounds_after x) (carried (bounds_after x) (begun x) u) vs) (sym (append-nil (visit_edits (queue_after x).name (bounds_after x) (begun x) u)))
+told_on x [] u vs = ap (λ l. l ++ walk_edits (queue_after x).name (bounds_after x) (carried (bounds_after x) (begun_walk x) u) vs) (sym (append-nil (visit_edits (queue_after x).name (bounds_after x) (begun_walk x) u)))
 told_on x (y ∷ us) u vs =
-    let k = carried (bounds_after x) (begun x) y in
-    let first = visit_edits (queue_after x).name (bounds_after x) (begun x) y in
+    let k = carried (bounds_after x) (begun_walk x) y in
+    let first = visit_edits (queue_after x).name (bounds_after x) (begun_walk x) y in
     ap (λ l. first ++ l) (edits_more (queue_after x).name (bounds_after x) k (us ++ u ∷ []) vs)
     ∙ sym (append_assoc first (walk_edits (queue_after x).name (bounds_after x) k (us ++ u ∷ [])) (walk_edits (queue_after x).name (bounds_after x) (carried_on (queue_after x).name (bounds_after x) k (us ++ u ∷ [])) vs))
 
 -- a row behind a serial that isn't wanted isn't asked for
-unasked : (k : Carry) (n m : ℕ) (vs ws : List Seen) → n < m → RisesFrom seen_serial m (vs ++ ws) → AllFail (test_of k n) vs → AllFail (asks_for k) vs
+unasked : (k : Carry) (n m : ℕ) (vs ws : List Seen) → n < m → RisesFrom seen_serial m (vs ++ ws) → AllFail (test_of k n) vs → AllFail (is_asked_for k) vs
 unasked k n m [] ws l r h = tt
 unasked k n m (v ∷ vs) ws l r h =
     let low : m ≤ v.row.serial = r.0 in
-    (ap (λ t. t && asks_for k v) (sym (lt-ltb n v.row.serial (omega arith))) ∙ h.0, unasked k n (suc v.row.serial) vs ws (omega arith) r.1 h.1)
+    (ap (λ t. t && is_asked_for k v) (sym (lt-ltb n v.row.serial (omega arith))) ∙ h.0, unasked k n (suc v.row.serial) vs ws (omega arith) r.1 h.1)
 
 -- ---- visits of the rows that are wanted
 
@@ -246,7 +246,7 @@ rows_behind x u vs h =
       rise = at.1;
       finds =
           wanted_is k n (rows_seen x)
-          ∙ sym (find_in (test_of k n) (λ v. nat_le x.item.serial v.row.serial) (rows_seen x) (λ v e. le-leb x.item.serial v.row.serial (let more = ltb-true n v.row.serial (and_parts (nat_lt n v.row.serial) (asks_for k v) e).0 in omega (arith, more, low))))
+          ∙ sym (find_in (test_of k n) (λ v. nat_le x.item.serial v.row.serial) (rows_seen x) (λ v e. le-leb x.item.serial v.row.serial (let more = ltb-true n v.row.serial (and_parts (nat_lt n v.row.serial) (is_asked_for k v) e).0 in omega (arith, more, low))))
           ∙ ap (find (test_of k n)) parts
           ∙ find_past (test_of k n) (ahead ++ u ∷ []) h.left (passed k n (ahead ++ u ∷ []) below);
     }
@@ -254,7 +254,7 @@ rows_behind x u vs h =
 reaches_first : (x : Delivered) (v : Seen) → row_wanted x [] ≡ Some v → Reaches x [] v
 reaches_first x v e =
     let f = found_first (λ w. nat_le x.item.serial w.row.serial) (rows_seen x) v e in
-    record { front = []; behind = f.0; parts = f.1; tells = refl; carries_on = carry_next x v []; tells_on = edits_next x v [] ∙ sym (append-nil (visit_edits (queue_after x).name (bounds_after x) (begun x) v)) }
+    record { front = []; behind = f.0; parts = f.1; tells = refl; carries_on = carry_next x v []; tells_on = edits_next x v [] ∙ sym (append-nil (visit_edits (queue_after x).name (bounds_after x) (begun_walk x) v)) }
 
 reaches_next : (x : Delivered) (u : Seen) (vs : List Seen) (v : Seen) → Reached x (u ∷ vs) → row_wanted x (u ∷ vs) ≡ Some v → Reaches x (u ∷ vs) v
 reaches_next x u vs v h e =
@@ -268,7 +268,7 @@ reaches_next x u vs v h e =
     let zs = at.before in
     let passed_is : h.passed ≡ us = b.passed_is in
     let none = unasked k n (suc n) zs (v ∷ at.behind) (omega arith) (subst (RisesFrom seen_serial (suc n)) at.parts b.rise) at.fail in
-    let asked : asks_for k v ≡ true = (and_parts (nat_lt n v.row.serial) (asks_for k v) at.passes).1 in
+    let asked : is_asked_for k v ≡ true = (and_parts (nat_lt n v.row.serial) (is_asked_for k v) at.passes).1 in
     let carries : carry_behind x us ≡ k = sym (h.carries ∙ ap (carry_behind x) passed_is) in
     let carry_front : carry_behind x (us ++ zs) ≡ k = carry_on x b.ahead u zs ∙ ap (λ c. carried_on name bounds c zs) carries ∙ unasked_carry name bounds k zs none in
     let told_front : told_by x (us ++ zs) ≡ told_by x us =
@@ -303,26 +303,26 @@ reached x (v ∷ vs) w =
 -- ---- what the laws of the calls ask for
 
 -- before the visit of the row that is wanted, and behind it
-pub settled_before : (x : Delivered) (vs : List Seen) (v : Seen) → AreWanted x vs → row_wanted x vs ≡ Some v → fold_edits (tables x) (edits_by x vs) ≡ tables_settled_below x v.row.serial
+pub settled_before : (x : Delivered) (vs : List Seen) (v : Seen) → AreWanted x vs → row_wanted x vs ≡ Some v → fold_edits (delivered_rows x) (edits_by x vs) ≡ tables_settled_below x v.row.serial
 settled_before x vs v w e =
     let r = reaches x vs v (reached x vs w) e in
     let rise = subst (RisesFrom seen_serial x.item.serial) r.parts (on_rise x) in
     let low = low_at seen_serial x.item.serial r.front v r.behind rise in
-    ap (fold_edits (tables x)) (r.tells ∙ ap (told_by x) (sym (ap (under seen_serial v.row.serial) r.parts ∙ under_at seen_serial x.item.serial r.front v r.behind rise)))
+    ap (fold_edits (delivered_rows x)) (r.tells ∙ ap (told_by x) (sym (ap (under seen_serial v.row.serial) r.parts ∙ under_at seen_serial x.item.serial r.front v r.behind rise)))
     ∙ settled_under x v.row.serial low
 
-pub settled_behind : (x : Delivered) (vs : List Seen) (v : Seen) → AreWanted x vs → row_wanted x vs ≡ Some v → fold_edits (tables x) (edits_by x (v ∷ vs)) ≡ tables_settled_below x (v.row.serial + 1)
+pub settled_behind : (x : Delivered) (vs : List Seen) (v : Seen) → AreWanted x vs → row_wanted x vs ≡ Some v → fold_edits (delivered_rows x) (edits_by x (v ∷ vs)) ≡ tables_settled_below x (v.row.serial + 1)
 settled_behind x vs v w e =
     let r = reaches x vs v (reached x vs w) e in
     let rise = subst (RisesFrom seen_serial x.item.serial) r.parts (on_rise x) in
     let low = low_at seen_serial x.item.serial r.front v r.behind rise in
     let next : v.row.serial + 1 ≡ suc v.row.serial = omega arith in
-    ap (fold_edits (tables x)) (r.tells_on ∙ ap (told_by x) (sym (ap (under seen_serial (suc v.row.serial)) r.parts ∙ under_behind seen_serial x.item.serial r.front v r.behind rise)))
+    ap (fold_edits (delivered_rows x)) (r.tells_on ∙ ap (told_by x) (sym (ap (under seen_serial (suc v.row.serial)) r.parts ∙ under_behind seen_serial x.item.serial r.front v r.behind rise)))
     ∙ settled_under x (suc v.row.serial) (omega (arith, low)) ∙ ap (tables_settled_below x) (sym next)
 
 -- where no row is wanted
-pub settled_at_end : (x : Delivered) (vs : List Seen) → AreWanted x vs → row_wanted x vs ≡ None → fold_edits (tables x) (edits_by x vs) ≡ tables_settled x
-settled_at_end x [] w e = ap (λ us. fold_edits (tables x) (told_by x us)) (sym (none_found (λ v. nat_le x.item.serial v.row.serial) (rows_seen x) e)) ∙ settled_all x
+pub settled_at_end : (x : Delivered) (vs : List Seen) → AreWanted x vs → row_wanted x vs ≡ None → fold_edits (delivered_rows x) (edits_by x vs) ≡ tables_settled x
+settled_at_end x [] w e = ap (λ us. fold_edits (delivered_rows x) (told_by x us)) (sym (none_found (λ v. nat_le x.item.serial v.row.serial) (rows_seen x) e)) ∙ settled_all x
 settled_at_end x (u ∷ vs) w e =
     let name = (queue_after x).name in
     let bounds = bounds_after x in
@@ -336,13 +336,13 @@ settled_at_end x (u ∷ vs) w e =
     let none = unasked k n (suc n) b.left [] (omega arith) (subst (RisesFrom seen_serial (suc n)) (sym (append-nil b.left)) b.rise) (all_fail (test_of k n) b.left (sym b.finds ∙ e)) in
     let told : told_by x (us ++ b.left) ≡ told_by x us =
     told_on x b.ahead u b.left ∙ (λ j. told_by x us ++ walk_edits name bounds (carries j) b.left) ∙ ap (λ l. told_by x us ++ l) (unasked_edits name bounds k b.left none) ∙ append-nil (told_by x us) in
-    ap (fold_edits (tables x)) (h.tells ∙ ap (told_by x) passed_is ∙ sym told ∙ ap (told_by x) (sym b.parts)) ∙ settled_all x
+    ap (fold_edits (delivered_rows x)) (h.tells ∙ ap (told_by x) passed_is ∙ sym told ∙ ap (told_by x) (sym b.parts)) ∙ settled_all x
 
 -- ---- the calls
 
 -- nothing has been visited, and nothing is settled but the items before the touched one, which stay as they are
 pub starts : (x : Delivered) (w : Walk) (queue : QueueFacts) (touched : Touched) →
-    w ≡ record { name = queue.settings.now.name; bounds = bounds_by queue.settings.now; touched = touched.serial; told = []; carry = start (option_map out_of touched.out) touched.ahead queue.reports queue.window } →
+    w ≡ record { name = queue.settings.now.name; bounds = bounds_by queue.settings.now; touched = touched.serial; told = []; carry = walk_start (option_map out_of touched.out) touched.ahead queue.reports queue.window } →
     IsFor x queue touched → Starts x w
 starts x w queue touched begins f =
     let i = x.item.serial in
@@ -350,20 +350,20 @@ starts x w queue touched begins f =
     let is : w ≡ walk_by x [] = begins ∙ (λ k. record { name = f.name k; bounds = f.bounds k; touched = f.serial k; told = []; carry = f.begins k }) in
     record {
       visited = record { is = is; were_wanted = tt };
-      settled = ap (fold_edits (tables x)) (ap (λ (z : Walk). z.told) is ∙ ap (told_by x) (sym none)) ∙ settled_under x i (omega arith);
+      settled = ap (fold_edits (delivered_rows x)) (ap (λ (z : Walk). z.told) is ∙ ap (told_by x) (sym none)) ∙ settled_under x i (omega arith);
     }
 
 -- the serials that are asked for rise
-pub is_behind : (x : Delivered) (vs : List Seen) (v : Seen) → row_wanted x vs ≡ Some v → IsBehind x vs v
+pub is_behind : (x : Delivered) (vs : List Seen) (v : Seen) → row_wanted x vs ≡ Some v → IsBehindLast x vs v
 is_behind x [] v e = leb-true x.item.serial v.row.serial (found (λ w. nat_le x.item.serial w.row.serial) (rows_seen x) v e).1
 is_behind x (u ∷ vs) v e =
     let k = carry_by x (u ∷ vs) in
     let n = u.row.serial in
     let f = found (test_of k n) (rows_seen x) v (sym (wanted_is k n (rows_seen x)) ∙ e) in
-    ltb-true n v.row.serial (and_parts (nat_lt n v.row.serial) (asks_for k v) f.1).0
+    ltb-true n v.row.serial (and_parts (nat_lt n v.row.serial) (is_asked_for k v) f.1).0
 
 -- where a build ended, the walk begins with nothing taken out
-begun_after_build : (x : Delivered) → touch_of x.delivery ≡ build_ended → (k : Carry) → k ≡ begun x → k ≡ begins (queue_after x) x.item build_ended (stored x.settings x.before x.queue)
+begun_after_build : (x : Delivered) → touch_of x.delivery ≡ build_ended → (k : Carry) → k ≡ begun_walk x → k ≡ begins (queue_after x) x.item build_ended (stored x.settings x.before x.queue)
 begun_after_build x t k e = e ∙ ap (λ y. begins (queue_after x) x.item y (stored x.settings x.before x.queue)) t
 
 -- a visit of the row that is wanted
@@ -373,7 +373,7 @@ goes_on x old new v vs next visits answers h e =
     let is : new ≡ walk_by x (v ∷ vs) = visits ∙ ap (λ w. behind_visit w v) h.is in
     let wanted_all : AreWanted x (v ∷ vs) = (e, h.were_wanted) in
     let wants : next_of_code next ≡ next_by x (v ∷ vs) = answers ∙ ap (λ (w : Walk). next_of w.carry v.row.serial) is in
-    let tells : rows_walked x new ≡ fold_edits (tables x) (edits_by x (v ∷ vs)) = ap (rows_walked x) is in
+    let tells : rows_walked x new ≡ fold_edits (delivered_rows x) (edits_by x (v ∷ vs)) = ap (rows_walked x) is in
     record {
       before = ap (rows_walked x) h.is ∙ settled_before x vs v h.were_wanted e;
       behind = tells ∙ settled_behind x vs v h.were_wanted e;

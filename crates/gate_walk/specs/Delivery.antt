@@ -22,7 +22,7 @@ use Rattle.gate_types.specs.declared.edits.Edit.{Edit}
 use Rattle.gate_queue_rules.specs.Settled.{swept_of, rows_in}
 use Rattle.gate_walk.specs.Walk.{Seen, Carry, visit_edits, carried, walk_from}
 use Rattle.gate_walk.specs.Next.{next_of, visits_from}
-use Rattle.gate_walk.specs.Rescan.{TakenOut, Walks, start, stored, without_row, rows_from, rows_with, row_seen}
+use Rattle.gate_walk.specs.Rescan.{TakenOut, Walks, walk_start, stored, without_row, rows_from, rows_with, row_seen}
 use Rattle.gate_walk.specs.Rescan.{ahead_at, fails_at}
 
 -- ---- a queue after a delivery
@@ -68,7 +68,7 @@ standing_rows item_landed i rows = without_row i.serial rows
 
 -- what it begins with, by the stored rows
 abbrev pub begins : Queue → Item → Touch → List ItemRow → Carry
-begins o i k rows = start (out_by k i rows) (ahead_at i.serial rows) (length o.reports) o.window
+begins o i k rows = walk_start (out_by k i rows) (ahead_at i.serial rows) (length o.reports) o.window
 
 -- it begins at the touched item, or behind it where it was taken out; its rows are those stored before the delivery
 abbrev pub WalksFrom : Settings → State → State → Queue → Queue → Item → Touch → Type 0

@@ -9,7 +9,7 @@ use Rattle.gate_walk.specs.Walk.{walk_from}
 use Rattle.gate_types.specs.declared.records.Item.{Item as ItemRow}
 use Rattle.gate_types.specs.Settings.{Settings}
 use Rattle.gate_types.specs.State.{State}
-use Rattle.gate_walk.specs.Rescan.{start, row_seen, rows_from}
+use Rattle.gate_walk.specs.Rescan.{walk_start, row_seen, rows_from}
 
 -- the first row from a serial on is wanted, as at the start, or the first above it, or the first above it that needs
 -- what has gone, or none
@@ -76,7 +76,7 @@ pub record VisitsGoOn : Type 0 where
 pub record WalkStops : Type 0 where
   -- the touched item stands, stays, and its mark is what it was: the first visit is the last
   pub at_once : (bounds : Bounds) (reports window : ℕ) (ahead : Option ℕ) (v : Seen) →
-      (let k = start None ahead reports window in fails k v ≡ v.row.failing → verdict_by k v ≡ None →
+      (let k = walk_start None ahead reports window in fails k v ≡ v.row.failing → verdict_by k v ≡ None →
       next_of (carried bounds k v) v.row.serial ≡ stop)
   -- while no line has changed, and the visited item doesn't turn failing, no line has changed
   pub keeps_lines : (bounds : Bounds) (k : Carry) (v : Seen) → k.resets ≡ false → fails k v ≡ v.row.failing →

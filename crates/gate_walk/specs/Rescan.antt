@@ -19,7 +19,7 @@ use Rattle.gate_types.specs.Rebase.{with_live, stays_live}
 use Rattle.gate_types.specs.Sweep.{judged, judged_after, goes, next_window, report_of, without_runs}
 use Rattle.gate_types.specs.Step.{end_build}
 use Rattle.gate_types.specs.Lawful.{IsSound}
-use Rattle.gate_types.specs.Rows.{Rows, item_rows, row_of, numbered, fold_edits}
+use Rattle.gate_types.specs.Rows.{Rows, item_rows, row_of, numbered_reports, fold_edits}
 use Rattle.gate_queue_rules.specs.Settled.{settled_rows}
 use Rattle.gate_walk.specs.Walk.{SeenNeed, Seen, Carry, walk_from}
 
@@ -76,8 +76,8 @@ gone_at_first None = []
 gone_at_first (Some o) = if o.landed then [] else o.change ∷ []
 
 -- what a walk begins with, behind this non-failing item, that many reports, under this window
-abbrev pub start : Option TakenOut → Option ℕ → ℕ → ℕ → Carry
-start out ahead reports window = record {
+abbrev pub walk_start : Option TakenOut → Option ℕ → ℕ → ℕ → Carry
+walk_start out ahead reports window = record {
   resets = changes_lines out;
   passes = passes_a_landing out;
   ahead = ahead;
@@ -112,15 +112,15 @@ fails_at n rows = option_map_or (λ r. r.failing) (find (λ r. r.serial == n) ro
 -- a queue's rows: these for the items, whose columns may be of an earlier state
 abbrev pub rows_with : Queue → List ItemRow → List Build → Rows
 rows_with q rows builds =
-    record { name = q.name; window = q.window; items = rows; builds = builds; reports = numbered 0 q.reports }
+    record { name = q.name; window = q.window; items = rows; builds = builds; reports = numbered_reports 0 q.reports }
 
 -- a need once a change has landed
 abbrev pub need_behind : ℕ → Need → Need
 need_behind n m = record { change = m.change; landed = m.landed || n == m.change }
 
 -- a place once an item is the last landing of its queue
-abbrev pub place_behind : Item → Place → Place
-place_behind i p = record {
+abbrev pub place_after_landing : Item → Place → Place
+place_after_landing i p = record {
   landings = p.landings ++ record { serial = i.serial; change = i.change; revision = i.revision } ∷ [];
   ahead = p.ahead;
   item = p.item;
@@ -138,7 +138,7 @@ settled_to bounds builds ps behind q = (let js = judged_after builds [] ps in re
   window = fold (next_window bounds) q.window js;
   items = map (row_of builds) (filter (λ p. not (goes js p.item.serial)) ps) ++ behind;
   builds = without_runs (goes js) (map (λ b. with_live (b.live && stays_live builds ps b) b) builds);
-  reports = numbered 0 (q.reports ++ filter_map (λ j. option_map (λ v. report_of v j.item) j.verdict) js);
+  reports = numbered_reports 0 (q.reports ++ filter_map (λ j. option_map (λ v. report_of v j.item) j.verdict) js);
 })
 
 -- a walk over the last rows of a queue, each row of an item: at its end the queue is settled, and between two visits
@@ -163,7 +163,8 @@ WalkAfterBuild = (c : Settings) (s : State) (qs rs : List Queue) (q : Queue) (is
     b.live && is_running b.outcome ≡ true → b.serial ≡ i.serial →
     (let t = end_build e b.number s in let rows = stored c s q in
     Walks bounds q rows t.builds (map (place_of c t q) q.items)
-    (start None (ahead_at i.serial rows) (length q.reports) q.window) (row_seen c t rows) (rows_from i.serial rows))
+    (walk_start None (ahead_at i.serial rows) (length q.reports) q.window) (row_seen c t rows)
+    (rows_from i.serial rows))
 
 -- the item has left its queue: the other items stand as they stood, its running builds have stopped
 pub record HasLeft (c : Settings) (s t : State) (q o : Queue) (i : Item) (others : List Item) : Type 0 where
@@ -180,14 +181,14 @@ WalkAfterLeaving = (c : Settings) (s t : State) (qs rs : List Queue) (q o : Queu
     let left = without_row i.serial rows in
     let out : TakenOut = record { change = i.change; failing = fails_at i.serial rows; landed = false } in
     Walks bounds o left t.builds (map (place_of c t o) o.items)
-    (start (Some out) (ahead_at i.serial rows) (length o.reports) o.window) (row_seen c t left)
+    (walk_start (Some out) (ahead_at i.serial rows) (length o.reports) o.window) (row_seen c t left)
     (rows_from i.serial left))
 
 -- the item has landed: it is the last landing of its queue
 pub record HasLanded (c : Settings) (s t : State) (q o : Queue) (i : Item) (others : List Item) : Type 0 where
   pub items : o.items ≡ others
   pub builds : t.builds ≡ without_runs (λ n. n == i.serial) s.builds
-  pub places : map (place_of c t o) others ≡ map (place_behind i) (map (place_of c s q) others)
+  pub places : map (place_of c t o) others ≡ map (place_after_landing i) (map (place_of c s q) others)
 
 -- the first non-failing item has landed
 abbrev pub WalkAfterLanding : Type 0
@@ -197,5 +198,5 @@ WalkAfterLanding = (c : Settings) (s t : State) (qs rs : List Queue) (q o : Queu
     ahead_at i.serial (stored c s q) ≡ None → fails_at i.serial (stored c s q) ≡ false →
     (let left = without_row i.serial (stored c s q) in
     let out : TakenOut = record { change = i.change; failing = false; landed = true } in
-    Walks bounds o left t.builds (map (place_of c t o) o.items) (start (Some out) None (length o.reports) o.window)
+    Walks bounds o left t.builds (map (place_of c t o) o.items) (walk_start (Some out) None (length o.reports) o.window)
     (row_seen c t left) (rows_from i.serial left))

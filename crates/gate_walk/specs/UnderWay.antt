@@ -20,7 +20,7 @@ use Rattle.gate_walk.specs.declared.walk.Next.{Next as CodeNext}
 use Rattle.gate_walk.specs.declared.walk.Next.TheVariants as code
 use Rattle.gate_walk.specs.Walk.{Seen, Carry, Walk, behind_visit, fails, verdict_by}
 use Rattle.gate_walk.specs.Next.{Next, from, need, stop, next_of, wanted}
-use Rattle.gate_walk.specs.Rescan.{start, stored, rows_with, row_seen, settled_to}
+use Rattle.gate_walk.specs.Rescan.{walk_start, stored, rows_with, row_seen, settled_to}
 use Rattle.gate_laws.specs.Touch.{is_on, is_stale}
 use Rattle.gate_walk.specs.Delivery.{build_ended, moved, touch_of, begins, standing_rows}
 use Rattle.gate_queue_rules.specs.Settled.{swept_of, rows_in}
@@ -61,8 +61,8 @@ abbrev pub stale_rows : Delivered → List ItemRow
 stale_rows x = standing_rows (touch_of x.delivery) x.item (stored x.settings x.before x.queue)
 
 -- its rows
-abbrev pub tables : Delivered → Rows
-tables x = rows_with (queue_after x) (stale_rows x) x.after.builds
+abbrev pub delivered_rows : Delivered → Rows
+delivered_rows x = rows_with (queue_after x) (stale_rows x) x.after.builds
 
 abbrev pub places_of : Delivered → List Place
 places_of x = map (place_of x.settings x.after (queue_after x)) (queue_after x).items
@@ -81,8 +81,8 @@ tables_settled_below x n = settled_to (bounds_after x) x.after.builds
 -- ---- its walk
 
 -- it begins behind the item ahead, told of what was taken out
-abbrev pub begun : Delivered → Carry
-begun x = begins (queue_after x) x.item (touch_of x.delivery) (stored x.settings x.before x.queue)
+abbrev pub begun_walk : Delivered → Carry
+begun_walk x = begins (queue_after x) x.item (touch_of x.delivery) (stored x.settings x.before x.queue)
 
 -- the rows as its visits see them
 abbrev pub rows_seen : Delivered → List Seen
@@ -94,7 +94,7 @@ walk_by x [] = record {
   name = (queue_after x).name;
   bounds = bounds_after x;
   touched = x.item.serial;
-  carry = begun x;
+  carry = begun_walk x;
   told = [];
 }
 walk_by x (v ∷ vs) = behind_visit (walk_by x vs) v
@@ -120,7 +120,7 @@ pub record HasVisited (x : Delivered) (w : Walk) (vs : List Seen) : Type 0 where
 
 -- the queue as the walk's edits leave it
 abbrev pub rows_walked : Delivered → Walk → Rows
-rows_walked x w = fold_edits (tables x) w.told
+rows_walked x w = fold_edits (delivered_rows x) w.told
 
 -- a walk that has visited nothing: only what the items below the touched serial are to be is settled, and that is
 -- what they were
@@ -134,12 +134,12 @@ pub record IsFor (x : Delivered) (queue : QueueFacts) (touched : Touched) : Type
   pub name : queue.settings.now.name ≡ (queue_after x).name
   pub bounds : bounds_by queue.settings.now ≡ bounds_after x
   pub serial : touched.serial ≡ x.item.serial
-  pub begins : start (option_map out_of touched.out) touched.ahead queue.reports queue.window ≡ begun x
+  pub begins : walk_start (option_map out_of touched.out) touched.ahead queue.reports queue.window ≡ begun_walk x
 
 -- a row is behind that of the last visit, and the first one not before the touched serial
-abbrev pub IsBehind : Delivered → List Seen → Seen → Type 0
-IsBehind x [] v = x.item.serial ≤ v.row.serial
-IsBehind x (u ∷ us) v = u.row.serial < v.row.serial
+abbrev pub IsBehindLast : Delivered → List Seen → Seen → Type 0
+IsBehindLast x [] v = x.item.serial ≤ v.row.serial
+IsBehindLast x (u ∷ us) v = u.row.serial < v.row.serial
 
 -- where a visit of a row stops: at once where a build ended and the item stays with its mark; and while no line has
 -- changed, a non-failing item that stays so asks for no next row but one that needs what has gone
@@ -157,7 +157,7 @@ pub record GoesOn (x : Delivered) (old new : Walk) (v : Seen) (vs : List Seen) (
   pub at_stop : next ≡ code.Stop → rows_walked x new ≡ tables_settled x
   pub visited : HasVisited x new (v ∷ vs)
   pub wants : next_of_code next ≡ next_by x (v ∷ vs)
-  pub is_behind : IsBehind x vs v
+  pub is_behind : IsBehindLast x vs v
   pub stops : Stops x old new vs v next
 
 -- a visit by which the walk learns that no row is wanted: the queue is settled

@@ -184,14 +184,14 @@ behind_visit w v =
     record w { carry = carried w.bounds w.carry v; told = w.told ++ visit_edits w.name w.bounds w.carry v }
 
 -- the row is asked for: the next one while lines change or a landing is passed, else the next that needs what has gone
-abbrev pub asks_for : Carry → Seen → Bool
-asks_for k v = k.resets || k.passes || needs_gone k.gone v.needs
+abbrev pub is_asked_for : Carry → Seen → Bool
+is_asked_for k v = k.resets || k.passes || needs_gone k.gone v.needs
 
 -- the edits of a walk over the rows that it asks for
 abbrev pub walk_edits : List ℕ → Bounds → Carry → List Seen → List Edit
 walk_edits name bounds k [] = []
 walk_edits name bounds k (v ∷ vs) =
-    if asks_for k v
+    if is_asked_for k v
     then visit_edits name bounds k v ++ walk_edits name bounds (carried bounds k v) vs
     else walk_edits name bounds k vs
 

@@ -284,7 +284,7 @@ impl Walk {
           bounds = bounds_by queue.entry.settings.now;
           touched = touched.serial;
           told = [];
-          carry = law.start (option_map out_of touched.out) touched.ahead queue.entry.reports queue.entry.window;
+          carry = law.walk_start (option_map out_of touched.out) touched.ahead queue.entry.reports queue.entry.window;
         }) }
     {
         Ok(Walk {

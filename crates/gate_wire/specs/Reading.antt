@@ -73,8 +73,8 @@ unfoldable pub build_at : Data → Result ℕ Refusal
 build_at d = whole_up_to last_number (codes "build") d
 
 -- the project, by the form of its name
-unfoldable pub project_at : Data → Result (List ℕ) Refusal
-project_at d = text_of_form is_path_name (codes "project") d
+unfoldable pub project_name_at : Data → Result (List ℕ) Refusal
+project_name_at d = text_of_form is_path_name (codes "project") d
 
 -- the worker, by the form of its name
 unfoldable pub worker_at : Data → Result (List ℕ) Refusal
@@ -103,7 +103,7 @@ at_revision made d = change_at d >>= λ change. revision_at d >>= λ revision. O
 -- a revision
 abbrev pub revision_said : Data → Result Delivery Refusal
 revision_said d =
-    change_at d >>= λ change. project_at d >>= λ project. revision_at d >>= λ revision. message_at d >>= λ message.
+    change_at d >>= λ change. project_name_at d >>= λ project. revision_at d >>= λ revision. message_at d >>= λ message.
     Ok (delivery.Revision change project revision message)
 
 -- the delivery of a kind

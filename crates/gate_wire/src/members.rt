@@ -2,7 +2,7 @@
 ghost use Rattle.std.specs.Prelude.{◌≡◌, string_bytes, Ok};
 ghost use Rattle.serde_json.specs.View.{view};
 ghost use Rattle.gate_wire.specs.Reading.{Gives, or_bad, whole_at, text_at, id_at, kind_at, change_at, revision_at};
-ghost use Rattle.gate_wire.specs.Reading.{order_at, build_at, project_at, worker_at, message_at, ending_at};
+ghost use Rattle.gate_wire.specs.Reading.{order_at, build_at, project_name_at, worker_at, message_at, ending_at};
 ghost use Rattle.gate_wire.specs.Reading.{ending_named, text_of_form};
 ghost use Rattle.gate_types.specs.Names.{is_path_name};
 
@@ -118,7 +118,7 @@ fn path_name_of(alloc: Global, value: &Value, name: &str) -> Result<PathName, Re
 
 #[tactic(auto, unfolding(crate::specs::Reading::project_at))]
 pub(crate) fn project_of(alloc: Global, value: &Value) -> Result<PathName, Refusal>
-    ensures { Gives (λ x. x) result (project_at (view value.now)) }
+    ensures { Gives (λ x. x) result (project_name_at (view value.now)) }
 {
     path_name_of(alloc, value, "project")
 }

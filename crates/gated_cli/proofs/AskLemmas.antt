@@ -21,7 +21,7 @@ use Rattle.gate_http.specs.declared.request_fault.RequestFault.TheVariants as re
 use Rattle.gate_http.specs.declared.served.Served.{Served}
 use Rattle.gate_http.specs.declared.served.Served.TheVariants.{Answered}
 use Rattle.gated_cli.specs.Faults.{of_feed}
-use Rattle.gated_cli.specs.Showing.{LeavesAsBefore, LeavesLines, OfLinesTold, behind_named, cursor, lines_behind}
+use Rattle.gated_cli.specs.Showing.{LeavesAsBefore, LeavesShown, OfLinesTold, behind_named, cursor, lines_behind}
 use Rattle.gated_cli.specs.Showing.{lines_told, most_told}
 use Rattle.gated_cli.specs.declared.run.fault.Fault.{Fault}
 use Rattle.gated_cli.specs.declared.run.fault.Fault.TheVariants as fault
@@ -39,7 +39,7 @@ lines_are kept after Takes P gives of = record {
 -- why they are not written whole
 pub lines_left : {W : Type 0} (held : W → Option (List ℕ)) (old new : Tap W) (kept : List Kept) (after : Option Id) (f : FeedFault)
     → LeavesFeed kept after most_told [] held old new f
-    → LeavesLines (option_map feed_lines (fed after most_told kept)) held old new (of_feed f)
+    → LeavesShown (option_map feed_lines (fed after most_told kept)) held old new (of_feed f)
 lines_left held old new kept after feed.NoDelivery leaves = ap (option_map feed_lines) leaves
 lines_left held old new kept after feed.Unavailable leaves = tt
 lines_left held old new kept after feed.Broken leaves =
@@ -98,13 +98,13 @@ unnamed (Some text) f is = go (id_named text) is
 -- then the gate isn't asked
 pub unasked : {B W : Type 0} (trusted : B → Type 0) (holds : B → Settings → Content → Type 0) (gate : Gate B)
     (held : W → Option (List ℕ)) (output : Tap W) (after : Option (List ℕ)) (f : Fault) → Err f ≡ cursor after
-    → Goes trusted holds gate gate (λ g then. (then ≡ g) × LeavesLines (lines_told g after) held output output f)
+    → Goes trusted holds gate gate (λ g then. (then ≡ g) × LeavesShown (lines_told g after) held output output f)
 unasked trusted holds gate held output after f is = record {
   settings = refl;
   trusted_before = λ t. t;
   passes = λ t g over. (
     g,
     over,
-    (refl, subst (λ f. LeavesLines (lines_told g after) held output output f) (sym (unnamed after f is)) (ap (lines_behind g) (sym is))),
+    (refl, subst (λ f. LeavesShown (lines_told g after) held output output f) (sym (unnamed after f is)) (ap (lines_behind g) (sym is))),
   );
 }

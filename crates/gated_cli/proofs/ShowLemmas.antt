@@ -6,7 +6,7 @@ use Rattle.gate_types.specs.Tap.{has_failed, inside, Took, TookFront}
 use Rattle.gate_types.specs.Gated.{Gated}
 use Rattle.gate_types.specs.declared.tap.Tap.{Tap}
 use Rattle.gate_types.specs.declared.open_fault.OpenFault.{OpenFault}
-use Rattle.gated_cli.specs.Doing.{Looks, Prints, Shows, Streams, beside, status_of}
+use Rattle.gated_cli.specs.Doing.{Looks, Prints, PrintsShown, Streams, beside, status_of}
 use Rattle.gated_cli.specs.Ending.{AskingEnds, HistoryEnds, LinesEnd, ShowingEnds, StatusEnds}
 use Rattle.gated_cli.specs.OfFile.{TextOf}
 use Rattle.gated_cli.specs.OverFile.{file_fault}
@@ -167,7 +167,7 @@ stops_unopened (shown.Content path) held at f = refl
 
 -- a text that is written, on the streams
 pub shows : {W : Type 0} (s : Shown) (held : W → Option (List ℕ)) (old new : Tap W) → EndsWell s held old new →
-    (left : Option (List ℕ)) → (failed : Bool) → Shows s (beside held left failed old) (beside held left failed new)
+    (left : Option (List ℕ)) → (failed : Bool) → PrintsShown s (beside held left failed old) (beside held left failed new)
 shows shown.Status held old new h = prints held old new h
 shows (shown.History queue) held old new h = looks held old new h
 shows (shown.Deliveries behind) held old new h = looks held old new h

@@ -7,7 +7,7 @@ use Rattle.gate_types.proofs.TapLemmas.{writes_later, writes_sooner}
 use Rattle.gate_types.specs.Tap.{has_failed, inside}
 use Rattle.gate_types.specs.declared.tap.Tap.{Tap}
 use Rattle.gate_http.specs.declared.request_fault.RequestFault.{RequestFault}
-use Rattle.gate_http.specs.Connections.{AreTold, fault_lines}
+use Rattle.gate_http.specs.Connections.{FaultsAreTold, fault_lines}
 use Rattle.std.proofs.lemmas.Bool.{true≢false}
 use Rattle.gated_cli.specs.Ending.{TellsText}
 use Rattle.gated_cli.specs.Faults.{line_of}
@@ -18,7 +18,7 @@ use Rattle.gated_command.specs.declared.words.Cmd.TheVariants.{Deliveries, Get, 
 use Rattle.gated_cli.specs.declared.run.fault.Fault.{Fault}
 
 module _ {E : Type 0} (held : E → Option (List ℕ)) where
-  none_told : (tap : Tap E) → has_failed tap ≡ false → AreTold held tap tap []
+  none_told : (tap : Tap E) → has_failed tap ≡ false → FaultsAreTold held tap tap []
   none_told tap unfailed = record {
     whole = λ _. Appends-nil (held (inside tap));
     cut = λ failed. absurd (true≢false (sym failed ∙ unfailed));

@@ -6,7 +6,7 @@ use Rattle.std.specs.Io.KnownBytes.{Appends, Consumes, IsAtEnd}
 use Rattle.gate_types.specs.Settings.{Settings}
 use Rattle.gate_types.specs.Status.{status_text}
 use Rattle.gate_types.specs.Tap.{inside, has_failed}
-use Rattle.gate_types.specs.Gated.{Gated, opened}
+use Rattle.gate_types.specs.Gated.{Gated, new_gate}
 use Rattle.gate_types.specs.declared.tap.Tap.{Tap}
 use Rattle.gate_config.specs.Reading.{said_by}
 use Rattle.gated_command.specs.declared.words.Cmd.{Cmd}
@@ -58,7 +58,7 @@ pub record AnswersInput (before after : Streams) : Type 0 where
   pub ended : IsAtEnd after.left
   pub replies : List ℕ
   pub gate : Gated
-  pub answered : Replayed (opened config) (lines_of input) replies gate
+  pub answered : Replayed (new_gate config) (lines_of input) replies gate
 
 -- the output grows by the replies, and then by the status text if it is asked for
 pub record Replays (asked : Bool) (before after : Streams) : Type 0 where
@@ -116,11 +116,11 @@ pub record Announces (asked : ℕ) (before after : Streams) : Type 0 where
   pub written : Appends before.held after.held (listening_line port)
 
 -- a text of a gate is printed
-abbrev pub Shows : Shown → Streams → Streams → Type 0
-Shows shown.Status before after = Prints before after
-Shows (shown.History queue) before after = Looks before after
-Shows (shown.Deliveries behind) before after = Looks before after
-Shows (shown.Content path) before after = Looks before after
+abbrev pub PrintsShown : Shown → Streams → Streams → Type 0
+PrintsShown shown.Status before after = Prints before after
+PrintsShown (shown.History queue) before after = Looks before after
+PrintsShown (shown.Deliveries behind) before after = Looks before after
+PrintsShown (shown.Content path) before after = Looks before after
 
 -- what is told of a file that is migrated
 abbrev pub migrated_text : Migrated → List ℕ

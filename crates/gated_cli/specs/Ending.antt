@@ -4,9 +4,9 @@ use Rattle.std.specs.Prelude.{Option, Result, Err}
 use Rattle.std.specs.Io.KnownBytes.{Appends, Consumes}
 use Rattle.gate_types.specs.Settings.{Settings}
 use Rattle.gate_types.specs.Tap.{has_failed, Took, TookFront, WritesFront}
-use Rattle.gate_types.specs.Gated.{Gated, opened}
+use Rattle.gate_types.specs.Gated.{Gated, new_gate}
 use Rattle.gate_types.specs.declared.tap.Tap.{Tap}
-use Rattle.gate_config.specs.Reading.{said_by, Gives}
+use Rattle.gate_config.specs.Reading.{said_by, GivesSettings}
 use Rattle.gate_core.specs.Lines.{whole_lines, ReadFor}
 use Rattle.gate_core.specs.Replies.{Replayed, Cut}
 use Rattle.gated_cli.specs.Doing.{Streams, AnswersInput, Delivers, HasSettings, settings_limit, status_of, check_text}
@@ -22,7 +22,8 @@ use Rattle.gated_cli.specs.declared.run.shown.Shown.TheVariants as shown
 
 -- a fault of the settings file, or want of memory for it; one of the settings is that of some file within the limit
 abbrev pub IsOfSettings : Fault → Type 0
-IsOfSettings (fault.Settings f) = (file : List ℕ) × (length file ≤ settings_limit) × Gives (Err f) (said_by file)
+IsOfSettings (fault.Settings f) =
+    (file : List ℕ) × (length file ≤ settings_limit) × GivesSettings (Err f) (said_by file)
 IsOfSettings fault.SettingsFile = ⊤
 IsOfSettings fault.NoMemory = ⊤
 IsOfSettings _ = ⊥
@@ -48,7 +49,7 @@ pub record InputFails (before after : Streams) : Type 0 where
   pub read : Consumes before.left after.left front
   pub replies : List ℕ
   pub gate : Gated
-  pub answered : Replayed (opened config) (whole_lines front) replies gate
+  pub answered : Replayed (new_gate config) (whole_lines front) replies gate
   pub written : Appends before.held after.held replies
 
 -- the output failed within the reply to some line, and the input, which didn't, was read no further than for it
@@ -59,7 +60,7 @@ pub record ReplyIsCut (before after : Streams) : Type 0 where
   pub lines : List (List ℕ)
   pub replies : List ℕ
   pub gate : Gated
-  pub answered : Cut (opened config) lines replies gate
+  pub answered : Cut (new_gate config) lines replies gate
   pub read : ReadFor before.left after.left lines (length answered.done)
   pub written : Appends before.held after.held replies
 

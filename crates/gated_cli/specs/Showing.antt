@@ -100,17 +100,17 @@ pub record OfLinesTold (told : Option (List ℕ)) (P : List ℕ → Type 0) : Ty
   pub so : P lines
 
 -- what a fault leaves of the lines of deliveries: some first bytes; no delivery has the id at `NoDelivery`
-abbrev pub LeavesLines : {W : Type 0} → Option (List ℕ) → (W → Option (List ℕ)) → Tap W → Tap W → Fault → Type 0
-LeavesLines told held old new fault.Write = OfLinesTold told (TookSome held old new)
-LeavesLines told held old new fault.Store = OfLinesTold told (TookSome held old new)
-LeavesLines told held old new fault.NoDelivery = told ≡ None
-LeavesLines told held old new _ = ⊤
+abbrev pub LeavesShown : {W : Type 0} → Option (List ℕ) → (W → Option (List ℕ)) → Tap W → Tap W → Fault → Type 0
+LeavesShown told held old new fault.Write = OfLinesTold told (TookSome held old new)
+LeavesShown told held old new fault.Store = OfLinesTold told (TookSome held old new)
+LeavesShown told held old new fault.NoDelivery = told ≡ None
+LeavesShown told held old new _ = ⊤
 
 -- the lines of deliveries are written, or what a fault leaves of them
-abbrev pub WritesLines : {W : Type 0} → Option (List ℕ) → (W → Option (List ℕ)) → Tap W → Tap W →
+abbrev pub WritesShown : {W : Type 0} → Option (List ℕ) → (W → Option (List ℕ)) → Tap W → Tap W →
     Result (Unit {0}) Fault → Type 0
-WritesLines told held old new result =
-    MatchResult result (λ _. OfLinesTold told (Took held old new)) (LeavesLines told held old new)
+WritesShown told held old new result =
+    MatchResult result (λ _. OfLinesTold told (Took held old new)) (LeavesShown told held old new)
 
 -- what a fault of it leaves of the output, whatever the gate is
 abbrev pub StopsLines : {W : Type 0} → Tap W → Tap W → Fault → Type 0
@@ -166,7 +166,7 @@ abbrev pub Writes : {W : Type 0} → Shown → Gated → (W → Option (List ℕ
 Writes shown.Status g held old new result = WritesStatus g held old new result
 Writes (shown.History queue) g held old new result = WritesShownHistory g queue.now held old new result
 Writes (shown.Deliveries after) g held old new result =
-    WritesLines (lines_told g (option_map (λ s. s.now) after)) held old new result
+    WritesShown (lines_told g (option_map (λ s. s.now) after)) held old new result
 Writes (shown.Content path) g held old new result = WritesContent g path.now held old new result
 
 -- where it is written the output hasn't failed; of the status alone it is known there that a text was taken

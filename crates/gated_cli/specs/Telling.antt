@@ -2,7 +2,7 @@
 use Rattle.std.specs.Prelude.{◌≡◌, ◌≤◌, ℕ, List, ◌++◌, length, Option}
 use Rattle.gate_types.specs.declared.tap.Tap.{Tap}
 use Rattle.gate_http.specs.declared.request_fault.RequestFault.{RequestFault}
-use Rattle.gate_http.specs.Connections.{AreTold, fault_lines}
+use Rattle.gate_http.specs.Connections.{FaultsAreTold, fault_lines}
 use Rattle.gated_cli.specs.Ending.{TellsText}
 use Rattle.gated_cli.specs.Faults.{line_of}
 use Rattle.gated_command.specs.declared.words.Cmd.{Cmd}
@@ -12,7 +12,7 @@ use Rattle.gated_cli.specs.declared.run.fault.Fault.{Fault}
 
 -- at most so many faults of connections are told, by a line each; a writer that failed took a beginning
 abbrev pub TellsUpTo : {E : Type 0} → (E → Option (List ℕ)) → ℕ → Tap E → Tap E → Type 0
-TellsUpTo held most old new = (faults : List RequestFault) × (length faults ≤ most) × AreTold held old new faults
+TellsUpTo held most old new = (faults : List RequestFault) × (length faults ≤ most) × FaultsAreTold held old new faults
 
 -- what a command has told that is done: nothing, but of a server the faults of connections
 abbrev pub ToldBy : {E : Type 0} → (E → Option (List ℕ)) → Cmd → Tap E → Tap E → Type 0

@@ -18,7 +18,7 @@ pub trait GateFiles {
     ghost use Rattle.sqlite.specs.State.{State};
     ghost use Rattle.gate_types.specs.Tap.{has_failed, inside};
     ghost use Rattle.gated_cli.specs.Blame.{BreaksTo, FileFails, IsNotShown, MakingFails, MigratingFails};
-    ghost use Rattle.gated_cli.specs.Doing.{Announces, Delivers, Shows, beside, streams};
+    ghost use Rattle.gated_cli.specs.Doing.{Announces, Delivers, PrintsShown, beside, streams};
     ghost use Rattle.gated_cli.specs.Ending.{DeliveryEnds, IsOfMaking, ServingEnds, ShowingEnds, most_served};
     ghost use Rattle.gated_cli.specs.OfFile.{MakesGate, PrintsOf, RepliesTo, TextOf, Upgrades};
     ghost use Rattle.gated_cli.specs.OverFile.{GoesOver, ServesOver};
@@ -73,7 +73,7 @@ pub trait GateFiles {
         output: &mut Tap<W>,
     ) -> Result<(), Fault>
         requires { has_failed output.old ≡ false }
-        ensures ok { OnOk result ((left : Option (List ℕ)) → (failed : Bool) → Shows shown.entry
+        ensures ok { OnOk result ((left : Option (List ℕ)) → (failed : Bool) → PrintsShown shown.entry
             (beside W.contents left failed output.old) (beside W.contents left failed output.new)) }
         ensures made { OnOk result (Led file.now (PrintsOf config (TextOf shown.entry)
             (W.contents (inside output.old)) (W.contents (inside output.new)))) }

@@ -4,10 +4,10 @@ ghost use Rattle.std.specs.Prelude.{Err, OnOk, IfOk, IfErr};
 ghost use Rattle.std.specs.Io.KnownBytes.{Appends};
 ghost use Rattle.gate_types.specs.Settings.{Settings};
 ghost use Rattle.gate_types.specs.Tap.{has_failed, inside};
-ghost use Rattle.gate_types.specs.Gated.{opened};
+ghost use Rattle.gate_types.specs.Gated.{new_gate};
 ghost use Rattle.gate_migration.specs.declared.migrating.Migrated.{Migrated};
 ghost use Rattle.gated_cli.specs.Blame.{Blames, BreaksTo, Fails, FileFails, IsNotShown, MakingFails, MigratingFails};
-ghost use Rattle.gated_cli.specs.Doing.{Does, Announces, Checks, Delivers, Migrates, Replays, Shows};
+ghost use Rattle.gated_cli.specs.Doing.{Does, Announces, Checks, Delivers, Migrates, Replays, PrintsShown};
 ghost use Rattle.gated_cli.specs.Doing.{HasSettings, beside, streams, settings_limit, migrated_text};
 ghost use Rattle.gated_cli.specs.Ending.{EndsBy, CheckEnds, DeliveryEnds, MigrationEnds, ReplayEnds, ServingEnds};
 ghost use Rattle.gated_cli.specs.Ending.{ShowingEnds, IsEarly, IsOfMaking, IsOfSettings, most_served};
@@ -210,7 +210,7 @@ fn run_replay<F: Files + GateFiles + AllocGlobal, R: Read, W: Write>(
 
 /// A gate in memory that has seen no delivery.
 fn opened(alloc: Global, config: Config) -> Result<Gate<MemBook>, NoMemory>
-    ensures { IfOk result (λ gate. IsGate gate (opened config)) }
+    ensures { IfOk result (λ gate. IsGate gate (new_gate config)) }
 {
     config.show_sound();
     settings_are_in_form(&config);
@@ -270,7 +270,7 @@ fn run_show<F: Files + GateFiles + AllocGlobal, W: Write>(
     output: &mut Tap<W>,
 ) -> Result<(), Fault>
     requires { has_failed output.old ≡ false }
-    ensures ok { OnOk result ((left : Option (List ℕ)) → (failed : Bool) → Shows shown.entry
+    ensures ok { OnOk result ((left : Option (List ℕ)) → (failed : Bool) → PrintsShown shown.entry
         (beside W.contents left failed output.old) (beside W.contents left failed output.new)) }
     ensures made { OnOk result ((c : Settings) × HasSettings c × F.Led file.now (PrintsOf c (TextOf shown.entry)
         (W.contents (inside output.old)) (W.contents (inside output.new)))) }

@@ -201,8 +201,9 @@ said_of (name, rows) =
     if bytes_eq name (codes "serve") then serve_said rows else (
     if bytes_eq name (codes "migrate") then option_map migrate_of (files_of rows) else None)))))))))
 
-abbrev pub says : Option Cmd → Option (Text × List Row) → Type 0
-says cmd rows = asks_for cmd ≡ option_and_then said_of rows
+-- a command asks for what these rows say
+abbrev pub IsSaidBy : Option Cmd → Option (Text × List Row) → Type 0
+IsSaidBy cmd rows = asks_for cmd ≡ option_and_then said_of rows
 
 -- what the words ask for, if they name a command
 abbrev pub asked : List Text → Option Instruction

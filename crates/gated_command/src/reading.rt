@@ -1,7 +1,7 @@
 //! What the matches of a command line ask for.
 ghost use Rattle.std.specs.Prelude.{◌≡◌, ◌≤◌, codes, IfSome, option_map, option_and_then};
 ghost use Rattle.clap.specs.Words.{subcommand_rows_of, rows_of, found_of, first_of};
-ghost use Rattle.gated_command.specs.CommandLine.{is_set, asks_for, says, said_of, number_in, files_of};
+ghost use Rattle.gated_command.specs.CommandLine.{is_set, asks_for, IsSaidBy, said_of, number_in, files_of};
 
 use crate::commands::{MOST_COUNT, MOST_PORT};
 use crate::words::Cmd;
@@ -9,7 +9,7 @@ use clap::ArgMatches;
 
 /// What the matches ask for, if they name a command.
 pub(crate) fn read<'a>(matches: &ArgMatches<'a>) -> Option<Cmd<'a>>
-    ensures { says result (subcommand_rows_of matches.now) }
+    ensures { IsSaidBy result (subcommand_rows_of matches.now) }
 {
     match matches.subcommand() {
         None => None,

@@ -20,7 +20,7 @@ use Rattle.gate_types.specs.Slot.{is_waiting_slot}
 use Rattle.gate_types.specs.Window.{within_window}
 use Rattle.gate_queue.specs.declared.whole_queue.facts.ItemJobs.{ItemJobs}
 use Rattle.gate_queue.specs.WholeQueue.Chooses.{first_waiting, first_choice, TellOf, live_builds_count}
-use Rattle.gate_queue.specs.WholeQueue.Waiting.{is_of, waits, fails, waiting_job, choice_by}
+use Rattle.gate_queue.specs.WholeQueue.Waiting.{is_running_of, waits, job_fails, waiting_job, choice_by}
 use Rattle.gate_laws.proofs.Cuts.{waiting_cut}
 
 counts_is : (l s n q : Bool) → not (l && s) || (l && s && n && q) ≡ true → (l && s && n && q) ≡ (l && s)
@@ -37,7 +37,7 @@ and_comm false true = refl
 and_comm false false = refl
 
 -- a build of the job counts just where it is a live one of the item
-of_job : (p : Place) (job : Job) (b : Build) → not (b.live && b.serial == p.item.serial) || counts p b ≡ true → (same_name b.job job.name && counts p b) ≡ is_of p.item.serial job b
+of_job : (p : Place) (job : Job) (b : Build) → not (b.live && b.serial == p.item.serial) || counts p b ≡ true → (same_name b.job job.name && counts p b) ≡ is_running_of p.item.serial job b
 of_job p job b h =
     ap (λ t. same_name b.job job.name && t) (counts_is b.live (b.serial == p.item.serial) (not (is_blocked p)) (same_entries (ran_on p.landings b) (line p)) h)
     ∙ and_comm (same_name b.job job.name) (b.live && b.serial == p.item.serial)
@@ -46,7 +46,7 @@ any_cond : (f : Outcome → Bool) (t : Bool) (b : Build) (bs : List Build) → l
 any_cond f true b bs = refl
 any_cond f false b bs = refl
 
-any_of_job : (f : Outcome → Bool) (p : Place) (job : Job) (bs : List Build) → live_builds_count bs p ≡ true → list_any f (outcomes_of bs p job) ≡ list_any (λ b. is_of p.item.serial job b && f b.outcome) bs
+any_of_job : (f : Outcome → Bool) (p : Place) (job : Job) (bs : List Build) → live_builds_count bs p ≡ true → list_any f (outcomes_of bs p job) ≡ list_any (λ b. is_running_of p.item.serial job b && f b.outcome) bs
 any_of_job f p job [] h = refl
 any_of_job f p job (b ∷ bs) h =
     let both = and_parts (not (b.live && b.serial == p.item.serial) || counts p b) (live_builds_count bs p) h in
@@ -59,15 +59,15 @@ count_cond f n true b bs = refl
 count_cond f n false b bs = ap (λ m. fold (λ k o. k + cond (f o) 1 0) m (map (λ (x : Build). x.outcome) bs)) (sym (add-zero n))
 
 count_from : (f : Outcome → Bool) (n : ℕ) (p : Place) (job : Job) (bs : List Build) → live_builds_count bs p ≡ true →
-    fold (λ m o. m + cond (f o) 1 0) n (outcomes_of bs p job) ≡ fold (λ m (b : Build). m + cond (is_of p.item.serial job b && f b.outcome) 1 0) n bs
+    fold (λ m o. m + cond (f o) 1 0) n (outcomes_of bs p job) ≡ fold (λ m (b : Build). m + cond (is_running_of p.item.serial job b && f b.outcome) 1 0) n bs
 count_from f n p job [] h = refl
 count_from f n p job (b ∷ bs) h =
     let both = and_parts (not (b.live && b.serial == p.item.serial) || counts p b) (live_builds_count bs p) h in
     count_cond f n (same_name b.job job.name && counts p b) b (filter (λ x. same_name x.job job.name && counts p x) bs)
     ∙ ap (λ t. fold (λ m o. m + cond (f o) 1 0) (n + cond (t && f b.outcome) 1 0) (outcomes_of bs p job)) (of_job p job b both.0)
-    ∙ count_from f (n + cond (is_of p.item.serial job b && f b.outcome) 1 0) p job bs both.1
+    ∙ count_from f (n + cond (is_running_of p.item.serial job b && f b.outcome) 1 0) p job bs both.1
 
-count_of_job : (f : Outcome → Bool) (p : Place) (job : Job) (bs : List Build) → live_builds_count bs p ≡ true → count_by f (outcomes_of bs p job) ≡ count_by (λ b. is_of p.item.serial job b && f b.outcome) bs
+count_of_job : (f : Outcome → Bool) (p : Place) (job : Job) (bs : List Build) → live_builds_count bs p ≡ true → count_by f (outcomes_of bs p job) ≡ count_by (λ b. is_running_of p.item.serial job b && f b.outcome) bs
 count_of_job f p job bs h = count_from f 0 p job bs h
 
 -- an outcome that isn't lost is one of the three others
@@ -116,7 +116,7 @@ failed_table false false r true = refl
 failed_table false false true false = refl
 failed_table false false false false = refl
 
-fails_is : (p : Place) (bs : List Build) (job : Job) → live_builds_count bs p ≡ true → fails p.item.serial bs job ≡ is_failed_slot (raw_slot_of bs p job)
+fails_is : (p : Place) (bs : List Build) (job : Job) → live_builds_count bs p ≡ true → job_fails p.item.serial bs job ≡ is_failed_slot (raw_slot_of bs p job)
 fails_is p bs job h =
     let os = outcomes_of bs p job in
     (λ k. not (sym (any_of_job is_success p job bs h) k) && (sym (any_of_job is_failure p job bs h) k || nat_le 3 (sym (count_of_job is_lost p job bs h) k)))
@@ -150,7 +150,7 @@ first_waits bs p = by_blocked (is_blocked p) refl
 
 job_is : (p : Place) (i : ItemRow) (j : ItemJobs) (bs : List Build) → p.item.serial ≡ i.serial → p.jobs ≡ j.jobs.now → is_blocked p ≡ j.blocked → p.fast ≡ j.fast → live_builds_count bs p ≡ true → waiting_job bs i j ≡ first_waiting bs p
 job_is p i j bs es ej eb ef h =
-    (λ k. cond (sym eb k || sym ef k && list_any (λ x. x.voting && fails (sym es k) bs x) (sym ej k)) None (position (waits (sym es k) bs) (sym ej k)))
+    (λ k. cond (sym eb k || sym ef k && list_any (λ x. x.voting && job_fails (sym es k) bs x) (sym ej k)) None (position (waits (sym es k) bs) (sym ej k)))
     ∙ (λ k. cond (is_blocked p || p.fast && list_any (λ x. x.voting && fails_is p bs x h k) p.jobs) None (position (λ x. waits_is p bs x h k) p.jobs))
     ∙ sym (first_waits bs p)
 

@@ -27,7 +27,7 @@ use Rattle.gate_types.specs.Standing.{with_ahead, next_ahead, places_after, plac
 use Rattle.gate_types.specs.Rebase.{rebase, with_live, stays_live}
 use Rattle.gate_types.specs.Window.{bounds_of}
 use Rattle.gate_types.specs.Sweep.{Judged, judged, judged_after, goes, without_runs, sweep, next_window, report_of}
-use Rattle.gate_types.specs.Rows.{row_of, numbered}
+use Rattle.gate_types.specs.Rows.{row_of, numbered_reports}
 use Rattle.gate_types.specs.Rising.{In}
 use Rattle.gate_laws.proofs.Tests.{implied}
 use Rattle.gate_laws.proofs.Members.{every, any_to, to_right, map_same, from_filter}
@@ -258,6 +258,6 @@ each_queue_is_settled_by_itself c s before after q pick e r apart h =
       window = fold (next_window (bounds_of c q)) q.window (whole k);
       items = items k;
       builds = builds k;
-      reports = numbered 0 (q.reports ++ filter_map (λ j. option_map (λ v. report_of v j.item) j.verdict) (whole k));
+      reports = numbered_reports 0 (q.reports ++ filter_map (λ j. option_map (λ v. report_of v j.item) j.verdict) (whole k));
     })
     ∙ ap (λ (l : List Judged). swept_rows (bounds_of c q) l ps (rebased ps own) q) (sym alone)

@@ -67,8 +67,8 @@ rows window items builds reports = record {
 }
 
 -- the row of an item
-abbrev row : ℕ → ℕ → Option ℕ → Bool → ItemRow
-row serial change ahead failing = record {
+abbrev example_row : ℕ → ℕ → Option ℕ → Bool → ItemRow
+example_row serial change ahead failing = record {
   serial = serial;
   change = change;
   revision = 1;
@@ -77,8 +77,8 @@ row serial change ahead failing = record {
 }
 
 -- the queue of the two items under the window 2
-abbrev queue : Queue
-queue = record {
+abbrev two_item_queue : Queue
+two_item_queue = record {
   name = core;
   window = 2;
   landings = [];
@@ -87,21 +87,22 @@ queue = record {
 }
 
 -- what settling leaves of it
-abbrev left : List Need → Outcome → Outcome → Outcome → Rows
-left needs a b c = settled_rows (record { floor = 1; rule = default_rule }) (two needs) (runs a b c true) queue
+abbrev rows_left : List Need → Outcome → Outcome → Outcome → Rows
+rows_left needs a b c =
+    settled_rows (record { floor = 1; rule = default_rule }) (two needs) (runs a b c true) two_item_queue
 
 -- one settling of two items
 pub record TwoItemsAreSettled : Type 0 where
-  pub first_fails : left [] outcome.Failure outcome.Running outcome.Running
-      ≡ rows 2 (row 1 101 None true ∷ row 2 102 None false ∷ [])
+  pub first_fails : rows_left [] outcome.Failure outcome.Running outcome.Running
+      ≡ rows 2 (example_row 1 101 None true ∷ example_row 2 102 None false ∷ [])
       (runs outcome.Failure outcome.Running outcome.Running false) []
-  pub first_goes : left [] outcome.Failure outcome.Success outcome.Running
-      ≡ rows 1 (row 2 102 None false ∷ []) (runs outcome.Failure outcome.Success outcome.Running false)
+  pub first_goes : rows_left [] outcome.Failure outcome.Success outcome.Running
+      ≡ rows 1 (example_row 2 102 None false ∷ []) (runs outcome.Failure outcome.Success outcome.Running false)
       (record { place = 1; report = record { serial = 1; change = 101; revision = 1; verdict = verdict.Failed } } ∷ [])
-  pub both_go : left (record { change = 101; landed = false } ∷ []) outcome.Failure outcome.Success outcome.Running
+  pub both_go : rows_left (record { change = 101; landed = false } ∷ []) outcome.Failure outcome.Success outcome.Running
       ≡ rows 1 [] (runs outcome.Failure outcome.Success outcome.Running false)
       (record { place = 1; report = record { serial = 1; change = 101; revision = 1; verdict = verdict.Failed } } ∷
       record { place = 2; report = record { serial = 2; change = 102; revision = 1; verdict = verdict.Needs } } ∷ [])
-  pub nobody_fails : left [] outcome.Running outcome.Failure outcome.Running
-      ≡ rows 2 (row 1 101 None false ∷ row 2 102 (Some 1) false ∷ [])
+  pub nobody_fails : rows_left [] outcome.Running outcome.Failure outcome.Running
+      ≡ rows 2 (example_row 1 101 None false ∷ example_row 2 102 (Some 1) false ∷ [])
       (runs outcome.Running outcome.Failure outcome.Running true) []

@@ -10,8 +10,8 @@ use Rattle.gate_queue.specs.declared.whole_queue.facts.ItemFacts.{ItemFacts}
 use Rattle.gate_queue.specs.declared.whole_queue.context.ItemContext.{ItemContext}
 
 -- the place of an item, as far as its line asks for it
-abbrev pub place_before : List Landing → List Item → Item → Place
-place_before landings ahead i =
+abbrev pub place_for_line : List Landing → List Item → Item → Place
+place_for_line landings ahead i =
     record { landings = landings; ahead = ahead; item = i; needs = []; jobs = []; fast = false }
 
 -- the place of an item, before what is ahead is known
@@ -36,8 +36,8 @@ places_by landings (i ∷ items) [] = []
 places_by landings (i ∷ items) (f ∷ fs) = place_by landings i f ∷ places_by landings items fs
 
 -- the place that an item's context stands for
-abbrev pub place_of : ItemContext → Place
-place_of c = record {
+abbrev pub place_in_context : ItemContext → Place
+place_in_context c = record {
   landings = c.landings.now;
   ahead = c.ahead.now;
   item = c.item;

@@ -9,7 +9,7 @@ use Rattle.gate_types.specs.declared.edits.Edit.TheVariants as edit
 use Rattle.gate_types.specs.Names.{same_name}
 use Rattle.gate_types.specs.State.{Queue}
 use Rattle.gate_types.specs.Window.{bounds_by}
-use Rattle.gate_types.specs.Rows.{Rows, item_of, numbered, fold_edits}
+use Rattle.gate_types.specs.Rows.{Rows, item_of, numbered_reports, fold_edits}
 use Rattle.gate_queue_rules.specs.Settled.{settled_rows}
 use Rattle.gate_queue.specs.declared.whole_queue.facts.Facts.{Facts}
 use Rattle.gate_queue.specs.WholeQueue.Facts.{places_by}
@@ -31,7 +31,7 @@ stored_rows facts items builds reports = record {
   window = facts.window;
   items = items;
   builds = builds;
-  reports = numbered 0 reports;
+  reports = numbered_reports 0 reports;
 }
 
 -- an item of this serial is among these

@@ -13,7 +13,7 @@ use Rattle.gate_queue_rules.specs.Edits.{edits_at, next_reports, window_behind, 
 use Rattle.gate_queue.specs.WholeQueue.Facts.{places_by}
 
 -- the item of a place is added to each part of the pass
-pub record Visits (facts : Facts) (builds : List Build) (p : Place) (old new : Pass) : Type 0 where
+pub record AddsPlace (facts : Facts) (builds : List Build) (p : Place) (old new : Pass) : Type 0 where
   pub ahead : new.ahead.items ≡ next_ahead builds p
   pub staying : new.staying.items ≡ next_staying old.staying.items (judge builds old.staying.items p)
   pub edits : new.edits ≡ old.edits ++ edits_at facts.settings.now.name builds old.reports old.staying.items p

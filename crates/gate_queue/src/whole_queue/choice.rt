@@ -21,21 +21,21 @@ fn is_lost(outcome: Outcome) -> bool
 
 /// Whether a build is a live one of the job of an item.
 fn is_of(serial: Serial, job: &Job, build: &Build) -> bool
-    ensures { result ≡ waiting.is_of serial job.now build.now }
+    ensures { result ≡ waiting.is_running_of serial job.now build.now }
 {
     build.live && build.serial == serial && same_name(&build.job, &job.name)
 }
 
 /// Whether some live build of the job isn't lost.
 fn has_told(serial: Serial, builds: &[Build], job: &Job) -> bool
-    ensures { result ≡ list_any (λ b. waiting.is_of serial job.now b && not (is_lost b.outcome)) builds.now }
+    ensures { result ≡ list_any (λ b. waiting.is_running_of serial job.now b && not (is_lost b.outcome)) builds.now }
 {
     builds.iter().any(|build| is_of(serial, job, build) && !is_lost(build.outcome))
 }
 
 /// How many live builds of the job are lost.
 fn count_lost(serial: Serial, builds: &[Build], job: &Job) -> usize
-    ensures { result ≡ count_by (λ b. waiting.is_of serial job.now b && is_lost b.outcome) builds.now }
+    ensures { result ≡ count_by (λ b. waiting.is_running_of serial job.now b && is_lost b.outcome) builds.now }
 {
     builds
         .iter()
@@ -67,21 +67,21 @@ fn is_failure(outcome: Outcome) -> bool
 
 /// Whether some live build of the job has passed.
 fn has_passed(serial: Serial, builds: &[Build], job: &Job) -> bool
-    ensures { result ≡ list_any (λ b. waiting.is_of serial job.now b && is_success b.outcome) builds.now }
+    ensures { result ≡ list_any (λ b. waiting.is_running_of serial job.now b && is_success b.outcome) builds.now }
 {
     builds.iter().any(|build| is_of(serial, job, build) && is_success(build.outcome))
 }
 
 /// Whether some live build of the job has failed.
 fn has_failed(serial: Serial, builds: &[Build], job: &Job) -> bool
-    ensures { result ≡ list_any (λ b. waiting.is_of serial job.now b && is_failure b.outcome) builds.now }
+    ensures { result ≡ list_any (λ b. waiting.is_running_of serial job.now b && is_failure b.outcome) builds.now }
 {
     builds.iter().any(|build| is_of(serial, job, build) && is_failure(build.outcome))
 }
 
 /// Whether the job has failed: none of its live builds has passed, and one has failed or all its tries are lost.
 fn fails(serial: Serial, builds: &[Build], job: &Job) -> bool
-    ensures { result ≡ waiting.fails serial builds.now job.now }
+    ensures { result ≡ waiting.job_fails serial builds.now job.now }
 {
     if has_passed(serial, builds, job) {
         return false;
@@ -90,7 +90,7 @@ fn fails(serial: Serial, builds: &[Build], job: &Job) -> bool
 }
 
 fn some_vote_fails(serial: Serial, builds: &[Build], jobs: &[Job]) -> bool
-    ensures { result ≡ list_any (λ k. k.voting && waiting.fails serial builds.now k) jobs.now }
+    ensures { result ≡ list_any (λ k. k.voting && waiting.job_fails serial builds.now k) jobs.now }
 {
     jobs.iter()
         .any(|job| job.voting && fails(serial, builds, job))
@@ -98,7 +98,7 @@ fn some_vote_fails(serial: Serial, builds: &[Build], jobs: &[Job]) -> bool
 
 /// Whether an item gets no more builds: it is blocked, or is to fail fast and a voting job has failed.
 fn is_over(builds: &[Build], item: &Item, about: &ItemJobs) -> bool
-    ensures { result ≡ waiting.is_over builds.now item.now about.now }
+    ensures { result ≡ waiting.gets_no_more builds.now item.now about.now }
 {
     if about.blocked {
         return true;

@@ -4,7 +4,7 @@ ghost use Rattle.gate_types.specs.Slot as rules;
 ghost use Rattle.gate_types.specs.Standing.{is_failing};
 ghost use Rattle.gate_types.specs.Sweep as sweep;
 ghost use Rattle.gate_queue_rules.specs.Edits as edits_of;
-ghost use Rattle.gate_queue.specs.WholeQueue.Facts.{place_of};
+ghost use Rattle.gate_queue.specs.WholeQueue.Facts.{place_in_context};
 
 use crate::whole_queue::context::{BareItem, ItemContext};
 use crate::whole_queue::judge::{Ruling, judge};
@@ -19,8 +19,8 @@ use std::alloc::Global;
 
 /// Whether a build of the item stops being live: it doesn't count, or it runs though the item is over.
 fn is_stopped(context: &ItemContext, blocked: bool, over: bool, build: &Build) -> bool
-    requires { blocked ≡ rules.is_blocked (place_of context.now) }
-    ensures { result ≡ edits_of.stops (place_of context.now) over build.now }
+    requires { blocked ≡ rules.is_blocked (place_in_context context.now) }
+    ensures { result ≡ edits_of.stops (place_in_context context.now) over build.now }
 {
     if !build.live || build.serial != context.item.serial {
         return false;
@@ -39,8 +39,9 @@ fn push_stops(
     over: bool,
     builds: &[Build],
 ) -> Result<(), NoMemory>
-    requires { blocked ≡ rules.is_blocked (place_of context.now) }
-    ensures { OnOk result (edits.new ≡ edits.old ++ edits_of.stop_edits builds.now (place_of context.now) over) }
+    requires { blocked ≡ rules.is_blocked (place_in_context context.now) }
+    ensures { OnOk result
+        (edits.new ≡ edits.old ++ edits_of.stop_edits builds.now (place_in_context context.now) over) }
 {
     for build in builds {
         if is_stopped(context, blocked, over, build) {
@@ -71,10 +72,12 @@ pub(crate) fn push_edits(
     builds: &[Build],
 ) -> Result<Ruling, NoMemory>
     requires { reports + 1 < 2 ^ 64 }
-    ensures edits { let more = edits_of.edits_at name.now builds.now reports staying.now (place_of context.now) in
+    ensures edits { let place = place_in_context context.now in
+        let more = edits_of.edits_at name.now builds.now reports staying.now place in
         OnOk result (edits.new ≡ edits.old ++ more) }
-    ensures failing { IfOk result (λ j. j.failing ≡ is_failing builds.now (place_of context.now)) }
-    ensures verdict { IfOk result (λ j. j.verdict ≡ sweep.verdict_of builds.now staying.now (place_of context.now)) }
+    ensures failing { IfOk result (λ j. j.failing ≡ is_failing builds.now (place_in_context context.now)) }
+    ensures verdict { IfOk result (λ j.
+        j.verdict ≡ sweep.verdict_of builds.now staying.now (place_in_context context.now)) }
 {
     let ruling = judge(alloc, context, staying, builds)?;
     let over = ruling.verdict.is_some() || ruling.cut;

@@ -3,7 +3,7 @@ ghost use Rattle.std.specs.Prelude.{◌≡◌, ◌&&◌, ◌||◌, IfOk};
 ghost use Rattle.gate_types.specs.Slot as rules;
 ghost use Rattle.gate_types.specs.Standing.{is_failing};
 ghost use Rattle.gate_types.specs.Sweep as sweep;
-ghost use Rattle.gate_queue.specs.WholeQueue.Facts.{place_of};
+ghost use Rattle.gate_queue.specs.WholeQueue.Facts.{place_in_context};
 
 use crate::whole_queue::context::{BareItem, ItemContext, are_met_by};
 use crate::whole_queue::slots::marks_of;
@@ -35,10 +35,11 @@ pub(crate) fn judge(
     staying: &[BareItem],
     builds: &[Build],
 ) -> Result<Ruling, NoMemory>
-    ensures blocked { IfOk result (λ j. j.blocked ≡ rules.is_blocked (place_of context.now)) }
-    ensures failing { IfOk result (λ j. j.failing ≡ is_failing builds.now (place_of context.now)) }
-    ensures cut { IfOk result (λ j. j.cut ≡ rules.is_cut builds.now (place_of context.now)) }
-    ensures verdict { IfOk result (λ j. j.verdict ≡ sweep.verdict_of builds.now staying.now (place_of context.now)) }
+    ensures blocked { IfOk result (λ j. j.blocked ≡ rules.is_blocked (place_in_context context.now)) }
+    ensures failing { IfOk result (λ j. j.failing ≡ is_failing builds.now (place_in_context context.now)) }
+    ensures cut { IfOk result (λ j. j.cut ≡ rules.is_cut builds.now (place_in_context context.now)) }
+    ensures verdict { IfOk result (λ j.
+        j.verdict ≡ sweep.verdict_of builds.now staying.now (place_in_context context.now)) }
 {
     let met = are_met_by(staying, context.needs);
     if !are_met_by(context.ahead, context.needs) {

@@ -2,7 +2,7 @@
 ghost use Rattle.std.specs.Prelude.{◌≡◌, ◌≤◌, ◌+◌, true, nat_lt, [], ◌∷◌, ◌++◌, map, filter, drop, length, slice_get};
 ghost use Rattle.std.specs.Prelude.{IfSome};
 ghost use Rattle.gate_types.specs.Line.{same_entries, line, ran_on, landed_entry, item_entry};
-ghost use Rattle.gate_queue.specs.WholeQueue.Facts.{place_of, place_before};
+ghost use Rattle.gate_queue.specs.WholeQueue.Facts.{place_in_context, place_for_line};
 ghost use Rattle.gate_queue.specs.WholeQueue.Follows.{has_entry, Follows};
 ghost use Rattle.gate_queue.specs.WholeQueue.Shared.{are_below};
 
@@ -133,7 +133,8 @@ fn is_line(
     build: &Build,
 ) -> bool
     requires { are_below shared landings.now item.serial ≡ true }
-    ensures { result ≡ same_entries (ran_on landings.now build.now) (line (place_before landings.now ahead.now item)) }
+    ensures { result ≡
+        same_entries (ran_on landings.now build.now) (line (place_for_line landings.now ahead.now item)) }
 {
     let from = landings.len().min(shared).min(build.after as usize);
     match behind_landings(landings, &landings[from..], item.serial, build, from) {
@@ -144,7 +145,7 @@ fn is_line(
 
 /// Whether the build ran on the item's line.
 pub(crate) fn ran_on_line(context: &ItemContext, build: &Build) -> bool
-    ensures { result ≡ same_entries (ran_on context.now.landings.now build.now) (line (place_of context.now)) }
+    ensures { result ≡ same_entries (ran_on context.now.landings.now build.now) (line (place_in_context context.now)) }
 {
     is_line(
         context.landings,

@@ -3,7 +3,7 @@ ghost use Rattle.std.specs.Prelude.{◌≡◌, ◌<◌, ◌+◌, ◌^◌, true, 
 ghost use Rattle.std.specs.List.Sorted.{IsStrictlyIncreasing};
 ghost use Rattle.gate_queue.specs.WholeQueue.Facts.{place_behind};
 ghost use Rattle.gate_queue.specs.WholeQueue.Shared.{are_below};
-ghost use Rattle.gate_queue.specs.WholeQueue.Visits.{Visits, edits_by};
+ghost use Rattle.gate_queue.specs.WholeQueue.Visits.{AddsPlace, edits_by};
 ghost use Rattle.gate_queue.specs.WholeQueue.Settles.{Settles};
 
 use crate::whole_queue::context::{BareItem, ItemContext};
@@ -51,7 +51,7 @@ impl Pass {
         requires room { self.old.reports + 1 < 2 ^ 64 }
         requires shared { are_below self.old.shared facts.now.landings.now self.old.below ≡ true }
         ensures visited { let place = place_behind self.old.ahead.items facts.now.landings.now item.now about.now in
-            OnOk result (Visits facts.now builds.now place self.old self.new) }
+            OnOk result (AddsPlace facts.now builds.now place self.old self.new) }
         ensures shared { OnOk result (are_below self.new.shared facts.now.landings.now self.new.below ≡ true) }
     {
         let bare = BareItem::of(item);

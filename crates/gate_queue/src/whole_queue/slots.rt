@@ -2,7 +2,7 @@
 ghost use Rattle.std.specs.Prelude.{◌≡◌, false, IfOk};
 ghost use Rattle.std.specs.List.{list_all};
 ghost use Rattle.gate_types.specs.Slot as rules;
-ghost use Rattle.gate_queue.specs.WholeQueue.Facts.{place_of};
+ghost use Rattle.gate_queue.specs.WholeQueue.Facts.{place_in_context};
 
 use crate::whole_queue::context::ItemContext;
 use crate::whole_queue::line::ran_on_line;
@@ -14,8 +14,8 @@ use std::alloc::Global;
 
 /// Whether a build counts for an item that isn't blocked.
 pub(crate) fn counts(context: &ItemContext, build: &Build) -> bool
-    requires { rules.is_blocked (place_of context.now) ≡ false }
-    ensures { result ≡ rules.counts (place_of context.now) build.now }
+    requires { rules.is_blocked (place_in_context context.now) ≡ false }
+    ensures { result ≡ rules.counts (place_in_context context.now) build.now }
 {
     build.live && build.serial == context.item.serial && ran_on_line(context, build)
 }
@@ -27,8 +27,8 @@ fn outcomes_of(
     builds: &[Build],
     job: &Job,
 ) -> Result<Vec<Outcome>, NoMemory>
-    requires { rules.is_blocked (place_of context.now) ≡ false }
-    ensures { IfOk result (λ found. found.items ≡ rules.outcomes_of builds.now (place_of context.now) job.now) }
+    requires { rules.is_blocked (place_in_context context.now) ≡ false }
+    ensures { IfOk result (λ found. found.items ≡ rules.outcomes_of builds.now (place_in_context context.now) job.now) }
 {
     let mut found: Vec<Outcome> = Vec::new(alloc);
     for build in builds {
@@ -45,8 +45,8 @@ fn raw_slot_of(
     builds: &[Build],
     job: &Job,
 ) -> Result<Slot, NoMemory>
-    requires { rules.is_blocked (place_of context.now) ≡ false }
-    ensures { IfOk result (λ slot. slot ≡ rules.raw_slot_of builds.now (place_of context.now) job.now) }
+    requires { rules.is_blocked (place_in_context context.now) ≡ false }
+    ensures { IfOk result (λ slot. slot ≡ rules.raw_slot_of builds.now (place_in_context context.now) job.now) }
 {
     let outcomes = outcomes_of(alloc, context, builds, job)?;
     Ok(slot_of_outcomes(&outcomes))
@@ -58,9 +58,9 @@ pub(crate) fn marks_of(
     context: &ItemContext,
     builds: &[Build],
 ) -> Result<Marks, NoMemory>
-    requires { rules.is_blocked (place_of context.now) ≡ false }
-    ensures failed { IfOk result (λ marks. marks.failed ≡ rules.has_failure builds.now (place_of context.now)) }
-    ensures decided { let slot = rules.raw_slot_of builds.now (place_of context.now) in
+    requires { rules.is_blocked (place_in_context context.now) ≡ false }
+    ensures failed { IfOk result (λ marks. marks.failed ≡ rules.has_failure builds.now (place_in_context context.now)) }
+    ensures decided { let slot = rules.raw_slot_of builds.now (place_in_context context.now) in
         let jobs = context.now.jobs.now in
         IfOk result (λ marks. marks.decided ≡ list_all (λ j. rules.is_finished (slot j)) jobs) }
 {

@@ -23,7 +23,7 @@ use Rattle.gate_types.specs.Lawful.{IsSound}
 use Rattle.gate_types.specs.Rising.{In}
 use Rattle.gate_schema.specs.Edits.{need_rows}
 use Rattle.gate_schema.specs.Rows.{NeedRow, Stored, change_key}
-use Rattle.gate_schema.specs.Shown.{needs_it}
+use Rattle.gate_schema.specs.Shown.{needs_among}
 use Rattle.gate_rows.specs.Matches.{Matches, needs_in}
 use Rattle.gate_book_trait.specs.Reads as content
 use Rattle.gate_book_trait.specs.RowReads as table
@@ -176,7 +176,7 @@ module _ (c : Settings) (x : Content) (b : Stored) (told : Matches b (tables c x
       told.changes_are ∙ read.approval_is c x n lawful
 
   -- whether a change needs another
-  pub needs_are : (n number : ℕ) → needs_it b.needs n number ≡ list_any (λ m. m == n) (change_of x.state number).needs
+  pub needs_are : (n number : ℕ) → needs_among b.needs n number ≡ list_any (λ m. m == n) (change_of x.state number).needs
   needs_are n number =
       any_filter (λ (r : NeedRow). r.change == number) (λ (r : NeedRow). r.needed == n) b.needs
       ∙ ap (list_any (λ (r : NeedRow). r.needed == n)) (told.needs_are number)
@@ -184,7 +184,7 @@ module _ (c : Settings) (x : Content) (b : Stored) (told : Matches b (tables c x
       ∙ ap (list_any (λ m. m == n)) (needs_known (tables c x).changes number ∙ read.needs_are c x number)
 
   -- the ready list
-  pub ready_is : IsLawfulContent c x → (found : List Ready) → file.AreReady b found → found ≡ x.state.ready
+  pub ready_is : IsLawfulContent c x → (found : List Ready) → file.AreReadyByApproval b found → found ≡ x.state.ready
   ready_is lawful found ready =
       same_rising (λ (r : Ready). r.approval) found x.state.ready
       (pairs_rise (λ (r : Ready). r.approval) found ready.rise)
@@ -205,7 +205,7 @@ module _ (c : Settings) (x : Content) (b : Stored) (told : Matches b (tables c x
       found ≡ content.ready_needing x.state n
   ready_needing_is lawful n found are =
       are.need_it
-      ∙ ap (filter (λ (r : Ready). needs_it b.needs n r.change)) (ready_is lawful are.ready are.are_ready)
+      ∙ ap (filter (λ (r : Ready). needs_among b.needs n r.change)) (ready_is lawful are.ready are.are_ready)
       ∙ (λ k. filter (λ (r : Ready). needs_are n r.change k) x.state.ready)
 
   -- no two rows have one approval

@@ -18,7 +18,7 @@ use Rattle.gate_table_laws.proofs.told.Items.{found_once, items_are}
 
 -- the item alone, of an item with its queue's name
 item_alone : (o : Option ItemRow) →
-    option_map (λ (r : ItemRow). r.item) o ≡ option_map (λ (k : QueuedItem). k.item) (option_map file.queued o)
+    option_map (λ (r : ItemRow). r.item) o ≡ option_map (λ (k : QueuedItem). k.item) (option_map file.queued_item_of o)
 item_alone None = refl
 item_alone (Some r) = refl
 

@@ -18,7 +18,7 @@ use Rattle.gate_rows.specs.Matches.{Matches, items_of, placed}
 use Rattle.gate_book_trait.specs.Reads.{items_in, queue_named, queued_items}
 use Rattle.gate_book_trait.specs.declared.rows.QueuedItem.{QueuedItem}
 use Rattle.gate_book_trait.proofs.ReadLemmas as read
-use Rattle.gate_found_rows.specs.Asked.{queued}
+use Rattle.gate_found_rows.specs.Asked.{queued_item_of}
 use Rattle.gate_laws.proofs.Alone.{same_name_of}
 use Rattle.gate_laws.proofs.Counts.{one_of, one_part, times}
 use Rattle.gate_laws.proofs.Members.{flat_same, found, from_filter, from_flat, from_map, map_map, to_filter}
@@ -137,19 +137,19 @@ module _ (c : Settings) (x : Content) (b : Stored) (told : Matches b (tables c x
   -- what is found of a number that stands once over all queues
   pub found_once : AreNamed b → (key : Item → ℕ) →
       ((n : ℕ) → times n (flat_map (λ (q : Queue). map key q.items) x.state.queues) ≤ 1) → (n : ℕ) →
-      option_map queued (find (λ (r : ItemRow). key (item_of r.item) == n) b.items) ≡
+      option_map queued_item_of (find (λ (r : ItemRow). key (item_of r.item) == n) b.items) ≡
       find (λ (k : QueuedItem). key (item_of k.item) == n) (queued_items c x.state)
   found_once named key once n =
-      same_find queued (λ (r : ItemRow). key (item_of r.item) == n)
+      same_find queued_item_of (λ (r : ItemRow). key (item_of r.item) == n)
       (λ (k : QueuedItem). key (item_of k.item) == n) b.items (queued_items c x.state) (λ r. refl) to from one
     where
-      to : (r : ItemRow) → In r b.items → In (queued r) (queued_items c x.state)
+      to : (r : ItemRow) → In r b.items → In (queued_item_of r) (queued_items c x.state)
       to r m =
           let at = queue_of_row r m in
           subst (λ name. In (record { queue = name; item = r.item }) (queued_items c x.state)) at.2
           (queued_to c x.state at.0 r.item at.1 at.3)
 
-      from : (k : QueuedItem) → In k (queued_items c x.state) → (r : ItemRow) × In r b.items × (queued r ≡ k)
+      from : (k : QueuedItem) → In k (queued_items c x.state) → (r : ItemRow) × In r b.items × (queued_item_of r ≡ k)
       from k m =
           let at = queued_from c x.state k m in
           (record { queue = at.0.name; item = at.2 }, row_of_queue named at.0 at.2 at.1 at.3, at.4)

@@ -11,7 +11,7 @@ use Rattle.gate_types.specs.declared.rows.LandingRow.{LandingRow}
 use Rattle.gate_types.specs.Forms.{IsLawfulContent}
 use Rattle.gate_types.specs.Names.{same_name}
 use Rattle.gate_types.specs.Once.{Content}
-use Rattle.gate_types.specs.Rows.{numbered}
+use Rattle.gate_types.specs.Rows.{numbered_reports}
 use Rattle.gate_types.specs.Settings.{Settings}
 use Rattle.gate_types.specs.State.{Queue, State}
 use Rattle.gate_types.specs.Tables.{QueueRows, numbered_landings, tables}
@@ -40,7 +40,7 @@ landing_places n [] = refl
 landing_places n (l ∷ ls) = ap (λ ms. suc n ∷ ms) (landing_places (suc n) ls)
 
 -- and of numbered reports
-report_places : (n : ℕ) (rs : List Report) → map place_of_report (numbered n rs) ≡ places_from n rs
+report_places : (n : ℕ) (rs : List Report) → map place_of_report (numbered_reports n rs) ≡ places_from n rs
 report_places n [] = refl
 report_places n (r ∷ rs) = ap (λ ms. suc n ∷ ms) (report_places (suc n) rs)
 
@@ -143,14 +143,14 @@ module _ (c : Settings) (x : Content) (b : Stored) (told : Matches b (tables c x
 
   -- its reports, numbered
   pub report_rows : (name : List ℕ) →
-      of_queue (λ q. q.reports) name (tables c x).queues ≡ numbered 0 (reports_in x.state name)
+      of_queue (λ q. q.reports) name (tables c x).queues ≡ numbered_reports 0 (reports_in x.state name)
   report_rows name =
       ap (λ o. option_map_or (λ (r : QueueRows). r.reports) o []) (read.named_is c x name)
       ∙ by_queue (content.queue_named x.state name)
     where
       by_queue : (o : Option Queue) →
           option_map_or (λ (r : QueueRows). r.reports) (option_map (read.rows_of_queue c x.state) o) [] ≡
-          numbered 0 (option_map_or (λ (q : Queue). q.reports) o [])
+          numbered_reports 0 (option_map_or (λ (q : Queue). q.reports) o [])
       by_queue None = refl
       by_queue (Some q) = refl
 

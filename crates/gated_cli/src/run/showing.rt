@@ -5,7 +5,7 @@ ghost use Rattle.gate_core.specs.Held.{Goes};
 ghost use Rattle.gate_core.specs.Holding.{IsKeptGate};
 ghost use Rattle.gated_cli.specs.OverFile.{file_fault};
 ghost use Rattle.gated_cli.specs.Showing.{WritesStatus, StopsStatus, WritesShownHistory, StopsHistory, cursor};
-ghost use Rattle.gated_cli.specs.Showing.{lines_behind, lines_told, WritesLines, StopsLines, IsEndedBy};
+ghost use Rattle.gated_cli.specs.Showing.{lines_behind, lines_told, WritesShown, StopsLines, IsEndedBy};
 ghost use Rattle.gated_cli.specs.Showing.{WritesContent, StopsContent, Writes, EndsWell, StopsShown, LeavesAsBefore};
 
 use crate::run::fault::Fault;
@@ -96,7 +96,7 @@ fn write_behind<B: Archive, W: Write>(
 ) -> Result<(), Fault>
     requires { has_failed output.old ≡ false }
     ensures gate { Goes B.IsTrusted B.Holds gate.old gate.new (λ g then. (then ≡ g)
-        × WritesLines (lines_behind g (Ok after)) W.contents output.old output.new result) }
+        × WritesShown (lines_behind g (Ok after)) W.contents output.old output.new result) }
     ensures crash { LeavesAsBefore B.IsTrusted B.Holds B.LeavesOneOf gate.old gate.new }
     ensures ok { OnOk result (has_failed output.new ≡ false) }
     ensures err { IfErr result (StopsLines output.old output.new) }
@@ -122,7 +122,7 @@ pub(crate) fn write_deliveries<B: Archive, W: Write>(
 ) -> Result<(), Fault>
     requires { has_failed output.old ≡ false }
     ensures gate { Goes B.IsTrusted B.Holds gate.old gate.new (λ g then. (then ≡ g)
-        × WritesLines (lines_told g (option_map (λ s. s.now) after.entry)) W.contents output.old output.new result) }
+        × WritesShown (lines_told g (option_map (λ s. s.now) after.entry)) W.contents output.old output.new result) }
     ensures crash { LeavesAsBefore B.IsTrusted B.Holds B.LeavesOneOf gate.old gate.new }
     ensures ok { OnOk result (has_failed output.new ≡ false) }
     ensures err { IfErr result (StopsLines output.old output.new) }

@@ -1,4 +1,4 @@
-use Rattle.std.proofs.Common.{◌≡◌, ◌∙◌, Some, ap, rules}
+use Rattle.std.proofs.Common.{◌∙◌, Some, ap, rules}
 use Rattle.std.specs.Option.{option_or}
 use Rattle.gate_types.specs.State.{known_change}
 use Rattle.gate_book_trait.proofs.ReadingLemmas.{is_read}

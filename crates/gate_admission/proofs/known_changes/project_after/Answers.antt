@@ -1,4 +1,4 @@
-use Rattle.std.proofs.Common.{◌≡◌, ◌∙◌, Option, Some, List, ℕ, ap, sym, rules}
+use Rattle.std.proofs.Common.{◌∙◌, Option, Some, List, ℕ, ap, sym, rules}
 use Rattle.std.specs.Prelude.{find}
 use Rattle.std.specs.Option.{option_or}
 use Rattle.gate_types.specs.declared.records.Change.{Change}

@@ -3,7 +3,7 @@ use Rattle.sqlite.specs.Held.{state}
 use Rattle.gate_schema.specs.Schema.{gate_schema}
 use Rattle.gate_book_trait.specs.Reads.{Answers}
 use Rattle.gate_archive.specs.ItemText.{summary_of}
-use Rattle.gate_archive_queries.specs.Asked.{builds_of}
+use Rattle.gate_archive_queries.specs.Asked.{stored_builds_of}
 use Rattle.gate_archive_queries.proofs.BuildReads.{last_asks, last_found, last_in_form, last_turned}
 use Rattle.gate_archive_queries.proofs.builds.last_builds.Goals as goal
 
@@ -18,5 +18,5 @@ returns-clause-found g c clean b shows whole =
     let old = state g.S.Store c.args.conn.now in
     let it = c.in_ok-rows.ensures.finds clean in
     let rows = last_found old b c.args.of c.args.most c.in_ok-rows.rows.items (shows it.0) (rw (c.serial.ensures, c.number.ensures, c.from.ensures) at it.1) in
-    subst (λ l. Answers l c.summaries_back.result) (last_turned summary_of c.args.most (builds_of b c.args.of))
+    subst (λ l. Answers l c.summaries_back.result) (last_turned summary_of c.args.most (stored_builds_of b c.args.of))
     (c.summaries_back.ensures _ (c.deref.ensures.value ∙ rows) (last_in_form b c.args.of c.args.most whole))

@@ -4,8 +4,8 @@ use Rattle.sqlite.specs.Held.{state}
 use Rattle.sqlite.specs.Order.{Row}
 use Rattle.sqlite.specs.State.{HasCleanDisk, IsUnchanged, Survives}
 use Rattle.gate_types.specs.Tap.{has_failed}
-use Rattle.gate_archive_queries.specs.Deliveries.{accepted_shown, line_of}
-use Rattle.gate_queue_queries.specs.Streamed.{Streams}
+use Rattle.gate_archive_queries.specs.Deliveries.{accepted_shown, accepted_line}
+use Rattle.gate_queue_queries.specs.Streamed.{StreamsRows}
 use Rattle.gate_archive_queries.specs.declared.delivery_rows.Accepted.{Accepted}
 use Rattle.gate_queue_queries.proofs.StreamLemmas.{IsWriting}
 use Rattle.gate_archive_queries.proofs.delivery_reads.write_lines.Given as goal
@@ -19,6 +19,6 @@ invariant-loop-count g l =
       unfailed : has_failed l.w ≡ false;
       same : HasCleanDisk now → IsUnchanged old now;
       crash : Survives old now (λ _. ⊥);
-      writing : HasCleanDisk now → (sql : List ℕ) (params : Row) → HasGiven g.S.Store sql params l.fn.rows.conn.now [] → (told : List Accepted) → Streams sql params old accepted_shown told →
-          IsWriting g.S.Store sql params accepted_shown line_of l.front g.W.Write.contents l.fn.w l.w l.rows.conn.now l.count l.next told;
+      writing : HasCleanDisk now → (sql : List ℕ) (params : Row) → HasGiven g.S.Store sql params l.fn.rows.conn.now [] → (told : List Accepted) → StreamsRows sql params old accepted_shown told →
+          IsWriting g.S.Store sql params accepted_shown accepted_line l.front g.W.Write.contents l.fn.w l.w l.rows.conn.now l.count l.next told;
     }

@@ -14,7 +14,7 @@ returns-in-None-clause-found c =
     let olds = c.args.queues.now.items in
     let p = λ (q : QueueTable). same_name q.name name in
     let at : position p olds ≡ None = ap (position p) (sym c.deref.ensures.value) ∙ sym c.index_of.ensures ∙ c.in-None.is in
-    sym (found_none queue.rows_of p (λ (q : QueueRows). same_name q.name name) (λ x. refl) olds at)
+    sym (found_none queue.rows_of_table p (λ (q : QueueRows). same_name q.name name) (λ x. refl) olds at)
 
 pub returns-in-Some-clause-found : goal.returns-in-Some-clause-found
 returns-in-Some-clause-found c =
@@ -22,8 +22,8 @@ returns-in-Some-clause-found c =
     let olds = c.args.queues.now.items in
     let p = λ (q : QueueTable). same_name q.name name in
     let at : position p olds ≡ Some c.in-Some.index = ap (position p) (sym c.deref.ensures.value) ∙ sym c.index_of.ensures ∙ c.in-Some.is in
-    let first = found_first queue.rows_of p (λ (q : QueueRows). same_name q.name name) (λ x. refl) olds c.in-Some.index c.remove.result at in
-    ap (λ q. Some (queue.rows_of q)) c.remove.ensures.value ∙ first.1
+    let first = found_first queue.rows_of_table p (λ (q : QueueRows). same_name q.name name) (λ x. refl) olds c.in-Some.index c.remove.result at in
+    ap (λ q. Some (queue.rows_of_table q)) c.remove.ensures.value ∙ first.1
 
 pub returns-in-Some-clause-others : goal.returns-in-Some-clause-others
 returns-in-Some-clause-others c other apart =
@@ -31,6 +31,6 @@ returns-in-Some-clause-others c other apart =
     let olds = c.args.queues.now.items in
     let p = λ (q : QueueTable). same_name q.name name in
     let at : position p olds ≡ Some c.in-Some.index = ap (position p) (sym c.deref.ensures.value) ∙ sym c.index_of.ensures ∙ c.in-Some.is in
-    let first = found_first queue.rows_of p (λ (q : QueueRows). same_name q.name name) (λ x. refl) olds c.in-Some.index c.remove.result at in
-    ap (λ qs. rows_named (map queue.rows_of qs) other) c.remove.ensures.items
-    ∙ others_found queue.rows_of (λ (q : QueueRows). same_name q.name other) olds c.in-Some.index c.remove.result first.0 (named_apart _ name other first.2 apart)
+    let first = found_first queue.rows_of_table p (λ (q : QueueRows). same_name q.name name) (λ x. refl) olds c.in-Some.index c.remove.result at in
+    ap (λ qs. rows_named (map queue.rows_of_table qs) other) c.remove.ensures.items
+    ∙ others_found queue.rows_of_table (λ (q : QueueRows). same_name q.name other) olds c.in-Some.index c.remove.result first.0 (named_apart _ name other first.2 apart)

@@ -13,7 +13,7 @@ returns-in-Some c =
     let t = c.queue-item.result in
     let k = c.loop-queue.queue-index in
     let queues = c.args.queues.now in
-    let rest : Option LeftItem = find (λ i. i.report.serial == n) (all_left (map queue.rows_of (drop (suc k) queues))) in
+    let rest : Option LeftItem = find (λ i. i.report.serial == n) (all_left (map queue.rows_of_table (drop (suc k) queues))) in
     let found : Some c.in-Some.found ≡ option_map (with_report t) (find (λ r. r.report.serial == n) t.reports.rows.items) = sym c.in-Some.is ∙ c.in_ok-found.ensures in
     sym (c.loop-queue.invariant ∙ left_at n queues k t c.loop-queue-test.true c.queue-item.is ∙ ap (λ o. option_or o rest) (sym found))
 
@@ -24,7 +24,7 @@ loop-queue-preserved c =
     let k = c.loop-queue.queue-index in
     let queues = c.args.queues.now in
     let step : suc k ≡ k + 1 = omega arith in
-    let rest : Option LeftItem = find (λ i. i.report.serial == n) (all_left (map queue.rows_of (drop (suc k) queues))) in
+    let rest : Option LeftItem = find (λ i. i.report.serial == n) (all_left (map queue.rows_of_table (drop (suc k) queues))) in
     let found : None ≡ option_map (with_report t) (find (λ r. r.report.serial == n) t.reports.rows.items) = sym c.in_default.is ∙ c.in_ok-found.ensures in
     c.loop-queue.invariant ∙ left_at n queues k t c.loop-queue-test.true c.queue-item.is ∙ ap (λ o. option_or o rest) (sym found)
-    ∙ ap (λ m. find (λ i. i.report.serial == n) (all_left (map queue.rows_of (drop m queues)))) step
+    ∙ ap (λ m. find (λ i. i.report.serial == n) (all_left (map queue.rows_of_table (drop m queues)))) step

@@ -6,5 +6,5 @@ use Rattle.gate_book.proofs.past.left_in.Given as goal
 
 abbrev pub invariant-loop-queue : goal.invariant-loop-queue
 invariant-loop-queue l =
-    find (λ i. i.report.serial == l.fn.serial) (all_left (map queue.rows_of l.queues))
-    ≡ find (λ i. i.report.serial == l.fn.serial) (all_left (map queue.rows_of (drop l.queue-index l.queues)))
+    find (λ i. i.report.serial == l.fn.serial) (all_left (map queue.rows_of_table l.queues))
+    ≡ find (λ i. i.report.serial == l.fn.serial) (all_left (map queue.rows_of_table (drop l.queue-index l.queues)))

@@ -3,7 +3,7 @@ use Rattle.sqlite.specs.Held.{state}
 use Rattle.sqlite.specs.State.{HasCleanDisk}
 use Rattle.gate_found_rows.specs.Reads.{Shows}
 use Rattle.gate_found_rows.proofs.ReadLemmas.{only_read_then, shown_still}
-use Rattle.gate_file_changes.specs.Adopts.{resized}
+use Rattle.gate_file_changes.specs.Adopts.{resized_setting}
 use Rattle.gate_file_changes.proofs.AdoptLemmas.{map_more}
 use Rattle.gate_file_changes.proofs.adopting.resized_queues.Goals as goal
 
@@ -22,7 +22,7 @@ loop-queue-preserved g c =
           let still : Shows old b = shown_still first old b (was.only_reads.stays early) shows in
           c.push_reserved.ensures.items
           ∙ ap (λ l. l ++ c.in_ok-next.next ∷ []) (was.found early b shows whole)
-          ∙ ap (λ x. map (resized c.args.held.now b.queues) (take k c.args.queues.now) ++ x ∷ []) (c.in_ok-next.ensures.found clean b still whole)
-          ∙ map_more (resized c.args.held.now b.queues) c.args.queues.now k c.queue-item.result (omega arith) c.queue-item.is;
+          ∙ ap (λ x. map (resized_setting c.args.held.now b.queues) (take k c.args.queues.now) ++ x ∷ []) (c.in_ok-next.ensures.found clean b still whole)
+          ∙ map_more (resized_setting c.args.held.now b.queues) c.args.queues.now k c.queue-item.result (omega arith) c.queue-item.is;
       only_reads = only_read_then first old new was.only_reads c.resized_queue.ensures.only_reads;
     }

@@ -1,7 +1,7 @@
 use Rattle.std.proofs.Common.{◌∙◌, suc, length, ap, sym}
 use Rattle.std.specs.Vec.Iter.{into_iter_items}
 use Rattle.gate_memory.specs.Builds.{HaveRoom}
-use Rattle.gate_live.specs.HeldBuilds.{put_all}
+use Rattle.gate_live.specs.HeldBuilds.{put_in_turn}
 use Rattle.gate_live.proofs.RoomLemmas.{table_room_one}
 use Rattle.gate_live.proofs.held_builds.put_builds.Goals as goal
 
@@ -19,5 +19,5 @@ loop-build-preserved c =
     record {
       kept = c.put.ensures.kept;
       room = c.put.ensures.room (length left) room;
-      rest = ap (put_all left) c.put.ensures.rows ∙ sym (ap (λ bs. put_all bs c.loop-build.builds.rows.items) c.in-Some.ensures.steps.0) ∙ before.rest;
+      rest = ap (put_in_turn left) c.put.ensures.rows ∙ sym (ap (λ bs. put_in_turn bs c.loop-build.builds.rows.items) c.in-Some.ensures.steps.0) ∙ before.rest;
     }

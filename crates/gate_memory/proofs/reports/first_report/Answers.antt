@@ -3,7 +3,7 @@ use Rattle.std.specs.List.{filter_map, cons_option}
 use Rattle.gate_types.specs.declared.rows.ReportRow.{ReportRow}
 use Rattle.gate_types.specs.Keys.{place_of_report}
 use Rattle.gate_memory.specs.declared.pairs.Pair.{Pair}
-use Rattle.gate_memory.specs.Sorted.{passing}
+use Rattle.gate_memory.specs.Sorted.{passing_at}
 use Rattle.gate_memory.specs.Reports.{is_of_serial}
 use Rattle.gate_memory.proofs.CollectLemmas.{filter_map_next}
 use Rattle.gate_memory.proofs.QueueLemmas.{first_found}
@@ -11,13 +11,13 @@ use Rattle.gate_memory.proofs.reports.first_report.Goals as goal
 
 pub returns-in-Some : goal.returns-in-Some
 returns-in-Some c =
-    let look : Pair → Option ReportRow = λ p. passing place_of_report (is_of_serial c.args.serial) c.args.rows.now p.second in
+    let look : Pair → Option ReportRow = λ p. passing_at place_of_report (is_of_serial c.args.serial) c.args.rows.now p.second in
     let d : Pair = record { first = 0; second = 0 } in
     sym (first_found look c.args.entries.now c.loop-entry.entry-index d c.in-Some.row.now c.loop-entry-test.true c.loop-entry.invariant (sym c.in-Some.ensures))
 
 pub loop-entry-preserved : goal.loop-entry-preserved
 loop-entry-preserved c =
-    let look : Pair → Option ReportRow = λ p. passing place_of_report (is_of_serial c.args.serial) c.args.rows.now p.second in
+    let look : Pair → Option ReportRow = λ p. passing_at place_of_report (is_of_serial c.args.serial) c.args.rows.now p.second in
     let entries = c.args.entries.now in
     let k = c.loop-entry.entry-index in
     let d : Pair = record { first = 0; second = 0 } in

@@ -6,7 +6,7 @@ use Rattle.sqlite.specs.Held.{state}
 use Rattle.sqlite.specs.State.{HasCleanDisk}
 use Rattle.gate_book_trait.specs.Text.{first_line}
 use Rattle.gate_queue_queries.specs.History.{report_shown}
-use Rattle.gate_queue_queries.specs.Streamed.{body, line_from, lines}
+use Rattle.gate_queue_queries.specs.Streamed.{body, line_from, lines_of_records}
 use Rattle.gate_queue_queries.proofs.HistoryLemmas.{cut_within, leaves_head}
 use Rattle.gate_queue_queries.proofs.StreamLemmas.{begins_writing, cut_in_line, ends_full, ends_none, front_some}
 use Rattle.gate_queue_queries.proofs.StreamLemmas.{some_front, stops_behind, writes_on}
@@ -47,7 +47,7 @@ loop-step-preserved g c =
 pub returns-in_err-write_head-clause-found : goal.returns-in_err-write_head-clause-found
 returns-in_err-write_head-clause-found g c clean sql params gave rs streams =
     let p = err_from_is_err_and c.from_residual.result c.from_residual.ensures.1 in
-    rw (p.1, p.2) (leaves_head g.W.Write.contents c.args.w.now c.write_head.new.w (c.args.front.now ++ first_line c.args.queue.now) (lines (line_from c.args.first) 0 (take c.args.most rs)) _ c.in_err-write_head.ensures.taken)
+    rw (p.1, p.2) (leaves_head g.W.Write.contents c.args.w.now c.write_head.new.w (c.args.front.now ++ first_line c.args.queue.now) (lines_of_records (line_from c.args.first) 0 (take c.args.most rs)) _ c.in_err-write_head.ensures.taken)
 
 pub returns-in_default-clause-found : goal.returns-in_default-clause-found
 returns-in_default-clause-found g c clean sql params gave rs streams =

@@ -6,7 +6,7 @@ use Rattle.sqlite.specs.State.{HasCleanDisk, IsUnchanged, Survives}
 use Rattle.sqlite.specs.Values.{bound}
 use Rattle.gate_found_rows.specs.Finds.{Stays}
 use Rattle.gate_found_rows.proofs.StayLemmas.{begun_keeps, failed_stays, read_survives, stays_then, unchanged_stays}
-use Rattle.gate_queue_queries.specs.History.{IsSettled, report_shown}
+use Rattle.gate_queue_queries.specs.History.{ShowsCommitted, report_shown}
 use Rattle.gate_queue_queries.proofs.HistoryLemmas.{opened_so}
 use Rattle.gate_queue_queries.proofs.StreamLemmas.{plain_of, streams_at}
 use Rattle.gate_queue_queries.proofs.report_lines.write_reports.Goals as goal
@@ -66,7 +66,7 @@ returns-clause-stays g c clean reads =
     let begun : HasCleanDisk (state g.S.Store start) = omega (arith, c.write_lines.ensures.crash.clean) in
     let opened : HasCleanDisk mid = omega (arith, c.in-Ok-query.ensures.survives.clean) in
     let on : IsUnchanged mid (state g.S.Store start) = begun_keeps g.S.Store c.args.sql.now _ c.check_open.new.conn start reads (c.in-Ok-query.ensures.begun begun) in
-    let settled : IsSettled (state g.S.Store start) =
+    let settled : ShowsCommitted (state g.S.Store start) =
     λ up. on.0.now_is ∙ c.is_autocommit.ensures.settled (c.is_autocommit.ensures.value ∙ ap not c.check_open.ensures.mode) on.0.was_open ∙ sym on.0.committed_is in
     let it : Stays first (state g.S.Store end) =
     stays_then first mid (state g.S.Store end) (c.check_open.ensures.stays opened)

@@ -1,7 +1,7 @@
 use Rattle.std.proofs.Common.{◌∙◌, sym, ap, subst, rules}
 use Rattle.std.specs.Prelude.{option_map}
 use Rattle.std.proofs.lemmas.Bool.{ltb-true, ltb-false}
-use Rattle.gate_reads.specs.NextBuild.{with_number}
+use Rattle.gate_reads.specs.NextBuild.{under_number}
 use Rattle.gate_reads.specs.Parts.{TellsPart}
 use Rattle.gate_reads.proofs.Found.{none_before}
 use Rattle.gate_reads.proofs.Walking.{lawful_front}
@@ -29,7 +29,7 @@ returns-in_default g c = is_read_under (λ trusted x holds lawful q named e.
     let held = c.along.invariant.kept.holds_on start _ x holds in
     let none = subst (TellsPart config x.state name c.along.above most) c.in_default.is
     (c.in_ok-part.ensures.reads.found trusted _ x held lawful) in
-    sym (ap (option_map (with_number c.args.number))
+    sym (ap (option_map (under_number c.args.number))
     (part_missing (c.along.invariant.tried start x holds lawful q named e) name named most none
     (asked_above c.args.window c.along.left most (sym c.is_open.ensures ∙ c.along-test.true) c.size_of_part-most.ensures)
     (asked_fits c.args.window q.window c.along.left most e c.size_of_part-most.ensures))))
@@ -68,10 +68,10 @@ returns-then-is_short g c = is_read_under (λ trusted x holds lawful q named e.
     let found = c.in_ok-build.ensures.reads.found trusted x
     (c.in_ok-part.ensures.reads.kept.holds_on before _ x held) lawful q
     (part_places most tried) (part_behind tried name named most rows part.items) part.told in
-    sym (ap (option_map (with_number c.args.number)) (part_short tried name named most rows part.items
+    sym (ap (option_map (under_number c.args.number)) (part_short tried name named most rows part.items
     (ltb-true _ most (sym c.is_short.ensures ∙ c.if-is_short.true))
     (asked_fits c.args.window q.window c.along.left most e c.size_of_part-most.ensures)
-    (none_before (with_number c.args.number) _ (sym found ∙ c.in_default-2.is)))))
+    (none_before (under_number c.args.number) _ (sym found ∙ c.in_default-2.is)))))
     (then (then c.along.invariant.kept c.in_ok-part.ensures.reads.kept) c.in_ok-build.ensures.reads.kept) (search rules)
 
 pub along-preserved : goal.along-preserved
@@ -94,14 +94,14 @@ along-preserved g c = record {
       part_next tried name named most rows part.items
       (ltb-false _ most (sym c.is_short.ensures ∙ c.if-is_short.false))
       (asked_fits c.args.window q.window c.along.left most e c.size_of_part-most.ensures)
-      (none_before (with_number c.args.number) _ (sym found ∙ c.in_default-2.is)) c.get-above.result
+      (none_before (under_number c.args.number) _ (sym found ∙ c.in_default-2.is)) c.get-above.result
       c.saturating_sub-left.result c.build_of_part.new.ahead (c.get-above.ensures.value ∙ part.last)
       c.saturating_sub-left.ensures (c.in_ok-build.ensures.ahead c.in_default-2.is);
 }
 
 pub returns : goal.returns
 returns g c = is_read_under (λ trusted x holds lawful q named e.
-    sym (ap (option_map (with_number c.args.number))
+    sym (ap (option_map (under_number c.args.number))
     (tried_closed c.args.config.now x.state q c.along.above c.along.left
     c.along.ahead (c.along.invariant.tried trusted x holds lawful q named e)
     (ap (λ w. is_open w c.along.left) (sym e) ∙ sym c.is_open.ensures ∙ c.along-test.false))))

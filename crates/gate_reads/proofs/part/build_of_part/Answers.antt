@@ -3,7 +3,7 @@ use Rattle.std.specs.Prelude.{option_map}
 use Rattle.std.proofs.lemmas.List.{drop_all}
 use Rattle.gate_types.specs.declared.records.Item.{Item as ItemRow}
 use Rattle.gate_types.specs.declared.records.Entry.{Entry}
-use Rattle.gate_reads.specs.NextBuild.{with_number}
+use Rattle.gate_reads.specs.NextBuild.{under_number}
 use Rattle.gate_reads.specs.Parts.{ahead_behind}
 use Rattle.gate_reads.specs.Places.{IsBehind}
 use Rattle.gate_reads.proofs.Along.{Along, along_front, along_here, along_next, along_end, first_behind, row_at}
@@ -72,7 +72,7 @@ loop-item-preserved g c =
 
 pub returns-clause-reads : goal.returns-clause-reads
 returns-clause-reads g c = is_read_under (λ trusted x holds lawful q ps h t.
-    sym (ap (option_map (with_number c.args.number))
+    sym (ap (option_map (under_number c.args.number))
     (along_end (c.loop-item.invariant.along trusted x holds lawful q ps h t)
     (subst (λ (is : List ItemRow). drop c.loop-item.item-index is ≡ []) c.as_slice-item-items.ensures
     (drop_all c.loop-item.item-index c.as_slice-item-items.result.now c.loop-item-test.false)))))

@@ -1,7 +1,7 @@
 use Rattle.std.proofs.Common.{ap₂, inl, inr}
 use Rattle.std.proofs.KnownBytes.{Appends-trans}
 use Rattle.std.proofs.lemmas.Result.{err_from_is_err_and}
-use Rattle.gate_types.specs.Gated.{opened}
+use Rattle.gate_types.specs.Gated.{new_gate}
 use Rattle.gated_cli.specs.Doing.{status_of, streams}
 use Rattle.gated_cli.proofs.TellLemmas.{with_status, without_status}
 use Rattle.gated_cli.proofs.EndLemmas.{replay_ends, made_from, refused_status, cut_status, read_for}
@@ -12,7 +12,7 @@ use Rattle.gated_cli.proofs.run.run_replay.Goals.{then-status+in_ok-write_status
 pub returns-clause-ok : goal.returns-clause-ok
 returns-clause-ok g c =
     let h = c.in_ok-replay.ensures.ok in
-    let went = h.5.passes tt (opened c.in_ok-config.config) c.in_ok-gate.ensures in
+    let went = h.5.passes tt (new_gate c.in_ok-config.config) c.in_ok-gate.ensures in
     let shown = status_of went.0 in
     record {
       answers = record {
@@ -39,7 +39,7 @@ returns-in_err-replay-clause-err g c =
     (streams g.R.Read.remaining g.W.Write.contents c.replay.new.r c.replay.new.w)
     c.in_err-replay.was
     (λ e. let h = c.replay.ensures.read e in
-    let went = h.4.passes tt (opened c.in_ok-config.config) c.in_ok-gate.ensures in record {
+    let went = h.4.passes tt (new_gate c.in_ok-config.config) c.in_ok-gate.ensures in record {
       failed = (c.replay.ensures.reader_failed e).0;
       unfailed = (c.replay.ensures.reader_failed e).1;
       config = c.in_ok-config.config;
@@ -52,7 +52,7 @@ returns-in_err-replay-clause-err g c =
       written = h.3;
     })
     (λ e. let h = c.replay.ensures.write e in
-    let went = h.5.passes tt (opened c.in_ok-config.config) c.in_ok-gate.ensures in (
+    let went = h.5.passes tt (new_gate c.in_ok-config.config) c.in_ok-gate.ensures in (
       (c.replay.ensures.writer_failed e).1,
       record {
         unfailed = (c.replay.ensures.writer_failed e).0;
@@ -72,7 +72,7 @@ returns-in_err-replay-clause-err g c =
 pub returns-in_err-write_status-clause-err : goal.returns-in_err-write_status-clause-err
 returns-in_err-write_status-clause-err g c =
     let h = c.in_ok-replay.ensures.ok in
-    let went = h.5.passes tt (opened c.in_ok-config.config) c.in_ok-gate.ensures in
+    let went = h.5.passes tt (new_gate c.in_ok-config.config) c.in_ok-gate.ensures in
     let before = streams g.R.Read.remaining g.W.Write.contents c.args.input.now c.args.output.now in
     let after = streams g.R.Read.remaining g.W.Write.contents c.replay.new.r c.write_status.new.output in
     let p = err_from_is_err_and c.from_residual-in_err-write_status.result c.from_residual-in_err-write_status.ensures.1 in

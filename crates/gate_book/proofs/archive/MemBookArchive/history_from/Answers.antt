@@ -1,6 +1,6 @@
 use Rattle.std.proofs.Common.{◌∙◌, ap}
 use Rattle.gate_types.specs.Tables.{Tables}
-use Rattle.gate_memory.specs.Queues.{rows_of}
+use Rattle.gate_memory.specs.Queues.{rows_of_table}
 use Rattle.gate_book_trait.specs.RowReads.{rows_named}
 use Rattle.gate_book.specs.Memory.{Held}
 use Rattle.gate_book.proofs.HistoryLemmas.{not_there}
@@ -14,7 +14,7 @@ returns-clause-found g c _ s x held lawful =
     let rows = ap (λ (t : Tables). rows_named t.queues name) (ap (λ (m : Held). m.tables) (c.self.view_is ∙ held)) in
     elim c.match-queue_called.branch [
       | in-Some w ↦ rw (w.w-is, w.result-is) (of_rows_from g.W.Write.contents c.args.w.now w.write_rows.new.w s x name
-          c.args.from c.args.front.now (rows_of w.in-Some.found.now) w.write_rows.result (w.in-Some.ensures.found ∙ rows)
+          c.args.from c.args.front.now (rows_of_table w.in-Some.found.now) w.write_rows.result (w.in-Some.ensures.found ∙ rows)
           (rw (w.name.ensures, w.reports_from.ensures, w.report_count.ensures) at w.write_rows.ensures))
       | in-None w ↦ rw (w.w-is, w.result-is) (not_there s x name (w.in-None.ensures.found ∙ rows))
     ]

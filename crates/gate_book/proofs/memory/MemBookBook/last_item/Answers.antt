@@ -15,10 +15,10 @@ use Rattle.gate_book.proofs.memory.MemBookBook.last_item.Goals as goal
 
 pub returns-clause-reads : goal.returns-clause-reads
 returns-clause-reads c = is_read (λ _ s x held lawful.
-    c.last_item.ensures ∙ ap (read.last_below c.args.below) (ap items_in c.queue_named.ensures.found ∙ ap (λ (t : Tables). items_named t.queues c.args.queue.now) (ap (λ (m : Held). m.tables) (c.self.view_is ∙ held)) ∙ items_are s x c.args.queue.now))
+    c.last_item.ensures ∙ ap (read.last_item_below c.args.below) (ap items_in c.queue_named.ensures.found ∙ ap (λ (t : Tables). items_named t.queues c.args.queue.now) (ap (λ (m : Held). m.tables) (c.self.view_is ∙ held)) ∙ items_are s x c.args.queue.now))
     (search rules) (search rules)
 
 pub returns-clause-falls : goal.returns-clause-falls
 returns-clause-falls c =
     let items : List Item = items_found (option_copied c.queue_named.result) in
-    rw c.last_item.ensures (weaker_if (λ (i : Item). nat_lt i.serial c.args.below ≡ true) (λ (i : Item). i.serial < c.args.below) (λ i e. ltb-true i.serial c.args.below e) (read.last_below c.args.below items) (last_passes (λ (i : Item). nat_lt i.serial c.args.below) None items tt))
+    rw c.last_item.ensures (weaker_if (λ (i : Item). nat_lt i.serial c.args.below ≡ true) (λ (i : Item). i.serial < c.args.below) (λ i e. ltb-true i.serial c.args.below e) (read.last_item_below c.args.below items) (last_passes (λ (i : Item). nat_lt i.serial c.args.below) None items tt))

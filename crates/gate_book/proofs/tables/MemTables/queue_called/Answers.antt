@@ -10,4 +10,4 @@ pub returns-clause-found : goal.returns-clause-found
 returns-clause-found c =
     let queues = c.args.self.now.queues.items in
     let found : option_copied c.queue_in.result ≡ find (λ q. same_name q.name c.args.name.now) queues = rw c.deref.ensures.value at c.queue_in.ensures.found in
-    ap (option_map queue.rows_of) found ∙ sym (find_map queue.rows_of (λ r. same_name r.name c.args.name.now) queues)
+    ap (option_map queue.rows_of_table) found ∙ sym (find_map queue.rows_of_table (λ r. same_name r.name c.args.name.now) queues)

@@ -1,7 +1,7 @@
 use Rattle.std.proofs.Common.{◌≡◌, ◌∙◌, ◌+◌, ◌∷◌, [], suc, length, drop, ap, sym, subst, arith}
 use Rattle.gate_book_trait.proofs.Finding.{rest_at, rest_none}
 use Rattle.gate_live.specs.Live.{LiveTables, fold_live}
-use Rattle.gate_live.specs.Held.{HasRoom, live_of}
+use Rattle.gate_live.specs.Held.{HasRoomInEach, live_of}
 use Rattle.gate_live.proofs.HeldLemmas.{room_one}
 use Rattle.gate_live.proofs.held.Held.apply_all.Goals as goal
 
@@ -12,7 +12,7 @@ apply-requires-clause-room c =
     let e = c.edit-item.result in
     let left = drop (suc k) edits in
     let here : drop k edits ≡ e ∷ left = rest_at edits k e c.loop-edit-test.true ∙ ap (λ d. d ∷ left) (sym c.edit-item.is) in
-    let room : HasRoom (suc (length left)) c.loop-edit.self = subst (λ es. HasRoom (length es) c.loop-edit.self) here c.loop-edit.invariant.room in
+    let room : HasRoomInEach (suc (length left)) c.loop-edit.self = subst (λ es. HasRoomInEach (length es) c.loop-edit.self) here c.loop-edit.invariant.room in
     room_one (length left) c.loop-edit.self room
 
 pub loop-edit-preserved : goal.loop-edit-preserved
@@ -23,10 +23,10 @@ loop-edit-preserved c =
     let left = drop (suc k) edits in
     let step : suc k ≡ k + 1 = omega arith in
     let here : drop k edits ≡ e ∷ left = rest_at edits k e c.loop-edit-test.true ∙ ap (λ d. d ∷ left) (sym c.edit-item.is) in
-    let room : HasRoom (suc (length left)) c.loop-edit.self = subst (λ es. HasRoom (length es) c.loop-edit.self) here c.loop-edit.invariant.room in
+    let room : HasRoomInEach (suc (length left)) c.loop-edit.self = subst (λ es. HasRoomInEach (length es) c.loop-edit.self) here c.loop-edit.invariant.room in
     record {
       kept = c.apply.ensures.kept;
-      room = subst (λ n. HasRoom (length (drop n edits)) c.apply.new.self) step (c.apply.ensures.room (length left) room);
+      room = subst (λ n. HasRoomInEach (length (drop n edits)) c.apply.new.self) step (c.apply.ensures.room (length left) room);
       rest = ap (λ n. fold_live (live_of c.apply.new.self) (drop n edits)) (sym step)
           ∙ ap (λ (l : LiveTables). fold_live l left) c.apply.ensures.rows
           ∙ ap (λ es. fold_live (live_of c.loop-edit.self) es) (sym here)

@@ -10,9 +10,9 @@ use Rattle.gate_live.proofs.live.Live.last_item.Goals as goal
 
 pub returns-in-Some-clause-found : goal.returns-in-Some-clause-found
 returns-in-Some-clause-found c k x agrees =
-    c.last_item.ensures ∙ ap (read.last_below c.args.below) c.table_of.ensures.found
-    ∙ ap (λ (l : LiveTables). read.last_below c.args.below (live_items l.queues c.args.queue.now)) (held_is k x c.args.self.now c.self.inside.held _ (ap (λ (p : Parts). p.tables) c.self.view_is) c.in-Some.is agrees)
-    ∙ ap (read.last_below c.args.below) (live_items_are k x c.args.queue.now)
+    c.last_item.ensures ∙ ap (read.last_item_below c.args.below) c.table_of.ensures.found
+    ∙ ap (λ (l : LiveTables). read.last_item_below c.args.below (live_items l.queues c.args.queue.now)) (held_is k x c.args.self.now c.self.inside.held _ (ap (λ (p : Parts). p.tables) c.self.view_is) c.in-Some.is agrees)
+    ∙ ap (read.last_item_below c.args.below) (live_items_are k x c.args.queue.now)
 
 pub returns-in-Some-clause-falls : goal.returns-in-Some-clause-falls
 returns-in-Some-clause-falls c = subst (λ o. IfSome o (λ (i : Item). i.serial < c.args.below)) (sym c.last_item.ensures) (below_falls c.args.below _)

@@ -6,7 +6,7 @@ use Rattle.gate_types.specs.Rising.{RisesFrom}
 use Rattle.gate_memory.specs.declared.pairs.Pair.{Pair}
 use Rattle.gate_memory.specs.Sorted.{first_of}
 use Rattle.gate_memory.specs.Pairs.{pair_key, IsFit}
-use Rattle.gate_memory.specs.Builds.{Indexes, TellsLive, number_of, is_of}
+use Rattle.gate_memory.specs.Builds.{Indexes, TellsLive, number_of_build, is_build_of}
 use Rattle.gate_memory.proofs.SortedLemmas.{rises-filter}
 use Rattle.gate_memory.proofs.NeedLemmas.{all_filter}
 use Rattle.gate_memory.proofs.DropLemmas.{pairs_without, builds_without, index_drops, tells_drops, none_below, none_of}
@@ -28,7 +28,7 @@ returns-in-Some-clause-kept c =
     let told : c.remove_first.new.pairs.items ≡ pairs_without n old.told.items = rw c.get.ensures.value at c.remove_first.ensures.pairs in
     let live : c.remove_first-in-Some.new.pairs.items ≡ pairs_without n old.live.items = rw c.get-in-Some.ensures.value at c.remove_first-in-Some.ensures.pairs in
     let gone : c.drop_rows.new.rows.items ≡ builds_without n old.rows.items = c.drop_rows.ensures.rows in
-    let rise : RisesFrom number_of 0 c.drop_rows.new.rows.items = rw gone (rises-filter number_of (λ (b : Build). not (is_of n b)) 0 old.rows.items kept.rows_rise) in
+    let rise : RisesFrom number_of_build 0 c.drop_rows.new.rows.items = rw gone (rises-filter number_of_build (λ (b : Build). not (is_build_of n b)) 0 old.rows.items kept.rows_rise) in
     let live_rise : RisesFrom pair_key 0 c.remove_first-in-Some.new.pairs.items = rw live (rises-filter pair_key other 0 old.live.items kept.live_rise) in
     let fit : AllByRecursion IsFit c.remove_first-in-Some.new.pairs.items = rw live (all_filter IsFit other old.live.items kept.live_fit) in
     let tells : TellsLive c.remove_first-in-Some.new.pairs.items c.drop_rows.new.rows.items = rw (live, gone) (tells_drops n old.live.items old.rows.items kept.live_told) in

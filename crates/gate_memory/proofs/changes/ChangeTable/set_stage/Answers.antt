@@ -1,4 +1,4 @@
-use Rattle.std.proofs.Common.{◌≡◌, ◌<◌, List, Option, arith}
+use Rattle.std.proofs.Common.{◌≡◌, ◌<◌, Option, arith}
 use Rattle.std.specs.List.{AllByRecursion}
 use Rattle.gate_types.specs.Keys.{number_of_change}
 use Rattle.gate_types.specs.Tables.{at_stage, change_known}

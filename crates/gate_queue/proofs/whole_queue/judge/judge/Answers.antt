@@ -1,14 +1,14 @@
 use Rattle.std.proofs.Common.{◌≡◌, false, not, cond, Some, None, sym, ap, ◌∙◌}
 use Rattle.gate_types.specs.declared.records.Verdict.TheVariants as verdict
 use Rattle.gate_types.specs.Slot.{is_blocked}
-use Rattle.gate_queue.specs.WholeQueue.Facts.{place_of}
+use Rattle.gate_queue.specs.WholeQueue.Facts.{place_in_context}
 use Rattle.gate_queue_rules.proofs.Cut.{when_unblocked}
 use Rattle.gate_queue.proofs.WholeQueue.PlaceLemmas.{verdict_told}
 use Rattle.gate_queue.proofs.whole_queue.judge.judge.Goals as goal
 
 pub returns-clause-verdict : goal.returns-clause-verdict
 returns-clause-verdict c =
-    let p = place_of c.args.context.now in
+    let p = place_in_context c.args.context.now in
     let free : is_blocked p ≡ false = ap not (sym c.are_met_by.ensures ∙ c.if-not-are_met_by.false) in
     c.verdict_of-2.ensures
     ∙ ap (λ t. cond (not c.are_met_by-met.result) (Some verdict.Needs) (cond t (Some verdict.Failed) None)) c.has_failed-failed.ensures

@@ -6,7 +6,7 @@ use Rattle.gate_types.specs.Choice.{choose}
 use Rattle.gate_types.specs.Step.{with_build, settled_step}
 use Rattle.gate_book_trait.proofs.ReadingLemmas.{is_read_under}
 use Rattle.gate_reads.specs.Moves.{Moves}
-use Rattle.gate_reads.specs.NextBuild.{with_number}
+use Rattle.gate_reads.specs.NextBuild.{under_number}
 use Rattle.gate_ruling.proofs.Drawn.{build_past}
 use Rattle.gate_ruling.proofs.Taken.{choice, some_choice, taken_raw, taken_moves}
 use Rattle.gate_ruling.proofs.kinds.take.take.Goals as goal
@@ -18,7 +18,7 @@ returns-then-drawn-ge-LAST_NUMBER g c = is_read_under (λ trusted x holds lawful
     let at_one = c.in_ok-drawn.ensures.kept.holds_on one _ x holds in
     let drawn = ap (λ (d : Drawn). d.build) (c.drawn.view_is ∙ c.in_ok-drawn.ensures.found one s x holds lawful) in
     let top = c.if-drawn-ge-LAST_NUMBER.true in
-    let found : Some c.in-Some-2.build ≡ option_map (with_number c.in-Some.number) (choose s x.state) =
+    let found : Some c.in-Some-2.build ≡ option_map (under_number c.in-Some.number) (choose s x.state) =
     sym c.in-Some-2.is ∙ c.in_ok-build.ensures.found trusted x at_one lawful in
     let a = some_choice s x.state c.in-Some.number c.in-Some-2.build found in
     let number = a.2 in
@@ -38,7 +38,7 @@ returns g c = is_read_under (λ trusted x holds lawful.
     let drawn : c.drawn.inside.build ≡ x.state.counters.build =
     ap (λ (d : Drawn). d.build) (c.drawn.view_is ∙ c.in_ok-drawn.ensures.found one s x holds lawful) in
     let top = c.if-drawn-ge-LAST_NUMBER.false in
-    let found : Some b ≡ option_map (with_number c.in-Some.number) (choose s x.state) =
+    let found : Some b ≡ option_map (under_number c.in-Some.number) (choose s x.state) =
     sym c.in-Some-2.is ∙ c.in_ok-build.ensures.found trusted x at_one lawful in
     let number : c.in-Some.number ≡ min c.drawn.inside.build (last_number - 1) + 1 =
     ap (λ o. unwrap_or o 0) (sym c.in-Some.is ∙ c.number_after.ensures) in

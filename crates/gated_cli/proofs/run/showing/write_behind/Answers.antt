@@ -2,7 +2,7 @@ use Rattle.std.proofs.Common.{◌≡◌, [], sym, subst}
 use Rattle.std.specs.Prelude.{Ok}
 use Rattle.gate_archive.specs.Writes.{LeavesFeed}
 use Rattle.gate_core.specs.Held.{Goes}
-use Rattle.gated_cli.specs.Showing.{LeavesLines, lines_behind, most_told}
+use Rattle.gated_cli.specs.Showing.{LeavesShown, lines_behind, most_told}
 use Rattle.gated_cli.proofs.AskLemmas.{goes_asked, kept_leaves, lines_left}
 use Rattle.gated_cli.proofs.run.showing.write_behind.Goals as goal
 
@@ -14,7 +14,7 @@ returns-in-Err-clause-gate g c =
     let old = c.args.output.now in
     let new = c.deliveries.new.w in
     let after = c.args.after in
-    subst (λ f. Goes trusted holds c.args.gate.now c.deliveries.new.self (λ x then. (then ≡ x) × LeavesLines (lines_behind x (Ok after)) held old new f))
+    subst (λ f. Goes trusted holds c.args.gate.now c.deliveries.new.self (λ x then. (then ≡ x) × LeavesShown (lines_behind x (Ok after)) held old new f))
     (sym c.from.ensures)
     (goes_asked trusted holds g.B.Book.LeavesOneOf c.args.gate.now c.deliveries.new.self
     (λ x. LeavesFeed x.kept after most_told [] held old new c.in-Err.fault) _
