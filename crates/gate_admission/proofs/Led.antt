@@ -11,12 +11,12 @@ use Rattle.gate_types.specs.Settings.{Settings}
 use Rattle.gate_types.specs.State.{Queue, State, known_change}
 use Rattle.gate_types.specs.Once.{Content}
 use Rattle.gate_types.specs.Rows.{item_rows}
-use Rattle.gate_types.specs.Tables.{Tables, QueueRows, tables, queue_rows, change_row, edited_changes}
+use Rattle.gate_types.specs.Tables.{Tables, QueueRows, tables, queue_rows, change_row, edited_changes, change_in}
 use Rattle.gate_types.specs.Tables.{edited_counters, edited_queue, edited_tables, fold_all}
 use Rattle.gate_types.proofs.NameLemmas.{same_name_is}
 use Rattle.gate_reads.specs.Moves.{in_state}
 use Rattle.gate_book_trait.specs.Reads.{queue_named, items_in}
-use Rattle.gate_book_trait.specs.RowReads.{change_in, rows_named}
+use Rattle.gate_book_trait.specs.RowReads.{rows_named}
 use Rattle.gate_book_trait.proofs.Finding.{find_map}
 use Rattle.gate_laws.proofs.Members.{found}
 use Rattle.gate_admission.specs.Led.{IsLed}

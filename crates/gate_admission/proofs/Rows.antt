@@ -13,8 +13,7 @@ use Rattle.gate_types.specs.declared.edits.Edit.TheVariants as edit
 use Rattle.gate_types.specs.Names.{same_name}
 use Rattle.gate_types.specs.State.{known_or_closed, put_by}
 use Rattle.gate_types.specs.Rows.{edited_items}
-use Rattle.gate_types.specs.Tables.{at_stage, edited_changes}
-use Rattle.gate_book_trait.specs.RowReads.{change_in, change_row_in}
+use Rattle.gate_types.specs.Tables.{at_stage, edited_changes, change_in, change_row_in}
 use Rattle.gate_types.proofs.ChangedLemmas.{found_changed, found_key}
 use Rattle.gate_types.proofs.PlainLemmas.{same_truth}
 use Rattle.gate_admission.specs.Seen.{at_last, staged, change_put, last_put, last_stage, row_put, stage_put}

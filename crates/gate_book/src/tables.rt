@@ -4,13 +4,13 @@ ghost use Rattle.std.specs.Prelude.{IfSome};
 ghost use Rattle.std.specs.List.{AllByRecursion};
 ghost use Rattle.std.specs.Option.{option_copied, option_map_or};
 ghost use Rattle.gate_types.specs.Once.{kept_for};
-ghost use Rattle.gate_types.specs.Tables.{edited_queue, edited_tables, fold_all, tables};
+ghost use Rattle.gate_types.specs.Tables.{edited_queue, edited_tables, fold_all, tables, change_in};
 ghost use Rattle.gate_memory.specs.Changes as change_table;
 ghost use Rattle.gate_memory.specs.Queues as queue;
 ghost use Rattle.gate_memory.specs.Builds.{is_live_of};
 ghost use Rattle.gate_memory.specs.Needs.{needs_brought, needs_of_all};
 ghost use Rattle.gate_book_trait.specs.Reads as read;
-ghost use Rattle.gate_book_trait.specs.RowReads.{approval_in, change_in, rows_named, items_named, needing_in};
+ghost use Rattle.gate_book_trait.specs.RowReads.{approval_in, rows_named, items_named, needing_in};
 ghost use Rattle.gate_book_trait.specs.RowReads.{plans_of_rows, all_queued, count_landings_below, LandingsRise};
 ghost use Rattle.gate_memory.specs.TableReads.{IsWhatRowsTellOf, builds_of_rows};
 ghost use Rattle.gate_book.specs.Memory.{tables_of, AreKeptTables, HasRoomInAll, HasRoomBeside, start_with};
@@ -152,7 +152,8 @@ impl MemTables {
             ≡ record (edited_tables (tables_of self.old) edit) { queues = (tables_of self.old).queues } }
         ensures queues { self.new.queues ≡ self.old.queues }
         ensures kept { AreKeptTables self.new }
-        ensures room { (n m : ℕ) → HasRoomBeside (suc n) (needs_brought edit + m) self.old → HasRoomBeside n m self.new }
+        ensures room { (n m : ℕ) →
+            HasRoomBeside (suc n) (needs_brought edit + m) self.old → HasRoomBeside n m self.new }
     {
         match edit {
             Edit::PutChange { change, approval } => {
@@ -241,7 +242,8 @@ impl MemTables {
     pub(crate) fn landing_before(&self, queue: &Name, serial: Serial) -> u64
         requires { AreKeptTables self.now }
         ensures { AllByRecursion LandingsRise (tables_of self.now).queues
-            → result ≡ option_map_or (count_landings_below serial) (rows_named (tables_of self.now).queues queue.now) 0 }
+            → result ≡
+            option_map_or (count_landings_below serial) (rows_named (tables_of self.now).queues queue.now) 0 }
     {
         match self.queue_named(queue) {
             Some(queue) => queue.landings_before(serial),

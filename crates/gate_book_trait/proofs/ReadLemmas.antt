@@ -24,9 +24,10 @@ use Rattle.gate_types.specs.State.{Queue, State, known_change, change_of, is_ope
 use Rattle.gate_types.specs.Rows.{item_rows, numbered_reports}
 use Rattle.gate_types.specs.Once.{Content}
 use Rattle.gate_types.specs.Tables.{QueueRows, approval_of, change_row, queue_rows, numbered_landings, tables}
+use Rattle.gate_types.specs.Tables.{change_in, needs_in}
 use Rattle.gate_types.specs.Forms.{IsLawfulContent, is_ready_in_form, is_drawn_number}
 use Rattle.gate_types.specs.Rising.{RisesFrom}
-use Rattle.gate_book_trait.specs.RowReads.{AreReady, Differ, approval_in, change_in, needs_in, rows_named}
+use Rattle.gate_book_trait.specs.RowReads.{AreReady, Differ, approval_in, rows_named}
 use Rattle.gate_book_trait.specs.RowReads.{items_named, count_landings_below, needing_in, ready_needing_in, all_queued}
 use Rattle.gate_book_trait.specs.RowReads.{LandingsRise, landing_serial}
 use Rattle.gate_book_trait.specs.Reads as read

@@ -1,30 +1,17 @@
 -- What the rows of a content answer.
 use Rattle.std.specs.Prelude.{ℕ, Bool, ◌&&◌, ◌==◌, ◌≡◌, ◌≢◌, ◌<◌, nat_lt, List, [], ◌∷◌, map, filter, find, length}
-use Rattle.std.specs.Prelude.{Option, option_map, option_and_then, option_to_list, flat_map, IsSome}
+use Rattle.std.specs.Prelude.{Option, option_and_then, option_to_list, flat_map, IsSome}
 use Rattle.std.specs.List.{AllByRecursion, list_any}
 use Rattle.std.specs.Option.{option_map_or}
-use Rattle.gate_types.specs.declared.records.Change.{Change}
 use Rattle.gate_types.specs.declared.records.Item.{Item}
 use Rattle.gate_types.specs.declared.records.Plan.{Plan}
 use Rattle.gate_types.specs.declared.records.Ready.{Ready}
 use Rattle.gate_types.specs.declared.rows.ChangeRow.{ChangeRow}
 use Rattle.gate_types.specs.declared.rows.LandingRow.{LandingRow}
 use Rattle.gate_types.specs.Names.{same_name}
-use Rattle.gate_types.specs.Tables.{QueueRows, approval_of}
+use Rattle.gate_types.specs.Tables.{QueueRows, approval_of, needs_in}
 use Rattle.gate_types.specs.Rising.{RisesFrom}
 use Rattle.gate_book_trait.specs.declared.rows.QueuedItem.{QueuedItem}
-
--- the row of a change
-abbrev pub change_row_in : List ChangeRow → ℕ → Option ChangeRow
-change_row_in rows n = find (λ r. r.change.number == n) rows
-
--- what is known of a change
-abbrev pub change_in : List ChangeRow → ℕ → Option Change
-change_in rows n = option_map (λ r. r.change) (change_row_in rows n)
-
--- the changes that it needs
-abbrev pub needs_in : List ChangeRow → ℕ → List ℕ
-needs_in rows n = option_map_or (λ k. k.needs) (change_in rows n) []
 
 -- the queue of a name
 abbrev pub rows_named : List QueueRows → List ℕ → Option QueueRows

@@ -1,7 +1,6 @@
 -- What the reads of changes find.
 use Rattle.std.proofs.Common.{◌≡◌, ◌<◌, ◌≤◌, ℕ, suc, pos, true, List, [], ◌∷◌, filter, find, map, codes, ap, refl}
 use Rattle.std.proofs.Common.{subst, sym, ◌∙◌, arith, eqb, eqb-true, length, slice_get, zero, Option, Some, None}
-use Rattle.std.specs.Option.{option_map_or}
 use Rattle.std.proofs.lemmas.List.Elements.{filter_passes, recursion_from_All}
 use Rattle.std.proofs.lemmas.List.Sums.{AllPass-from_list_all}
 use Rattle.std.specs.List.{All, AllByRecursion, AllPass}
@@ -17,7 +16,8 @@ use Rattle.sqlite_trees.specs.Tree.{IsAscending}
 use Rattle.gate_types.specs.Forms.{is_change_in_form, is_change_number}
 use Rattle.gate_types.specs.declared.records.Change.{Change}
 use Rattle.gate_types.specs.declared.rows.ChangeRow.{ChangeRow}
-use Rattle.gate_rows.specs.Matches.{needs_in}
+use Rattle.gate_types.specs.Tables.{needs_in}
+use Rattle.gate_types.proofs.ChangedLemmas.{needs_of_row}
 use Rattle.gate_schema.specs.Edits.{need_rows}
 use Rattle.gate_schema.specs.Rows.{NeedRow, Stored, change_key, change_table_row, need_columns}
 use Rattle.gate_schema.proofs.QueryLemmas.{passes}
@@ -31,7 +31,7 @@ use Rattle.gate_change_queries.proofs.ChangeTexts.{approval_asks, approval_query
 use Rattle.gate_change_queries.proofs.ChangeTexts.{change_names, change_query, change_sql, change_terms, needs_asks}
 use Rattle.gate_change_queries.proofs.ChangeTexts.{needs_query, needs_sql}
 use Rattle.gate_found_rows.proofs.KeyedReads.{finds_few, one_at}
-use Rattle.gate_schema.proofs.ListedQueries.{told_behind}
+use Rattle.gate_schema.proofs.RowLemmas.{told_behind}
 use Rattle.gate_found_rows.proofs.ListedReads.{listed_rising}
 use Rattle.gate_found_rows.proofs.ReadLemmas.{answers}
 use Rattle.gate_found_rows.proofs.ShownLemmas.{pass_filter}
@@ -87,7 +87,7 @@ needs_found s b n rows shows whole finds =
 pub needs_in_form : (n : ℕ) (rows : List ChangeRow) → AllPass is_change_row_in_form rows → AllPass is_change_number (needs_in rows n)
 needs_in_form n rows all = of_found (find (λ (r : ChangeRow). eqb r.change.number n) rows) (λ r e. passes_found r e)
   where
-    of_found : (o : Option ChangeRow) → ((r : ChangeRow) → o ≡ Some r → is_change_row_in_form r ≡ true) → AllPass is_change_number (option_map_or (λ (r : ChangeRow). r.change.needs) o [])
+    of_found : (o : Option ChangeRow) → ((r : ChangeRow) → o ≡ Some r → is_change_row_in_form r ≡ true) → AllPass is_change_number (needs_of_row o)
     of_found None all k d low = absurd (omega arith)
     of_found (Some r) all k d low =
         let form = first_of_both (is_change_in_form r.change) _ (all r refl) in
@@ -111,7 +111,7 @@ changes_as n needs b s shows whole are =
         → All (λ (k : Change). (k.number ≡ n) × (k.needs ≡ needs) × (is_change_in_form k ≡ true)) (map (λ (r : ChangeRow). r.change) rs)
     go [] few has form first k d low = absurd (omega arith)
     go (r ∷ []) few has form first zero d low =
-        (eqb-true _ _ (has 0 r (omega arith)), ap (λ (o : Option ChangeRow). option_map_or (λ (r : ChangeRow). r.change.needs) o []) first ∙ sym are, first_of_both _ _ (form 0 r (omega arith)))
+        (eqb-true _ _ (has 0 r (omega arith)), ap needs_of_row first ∙ sym are, first_of_both _ _ (form 0 r (omega arith)))
     go (r ∷ []) few has form first (suc k) d low = absurd (omega arith)
     go (r ∷ t ∷ rs) few has form first k d low = absurd (omega arith)
 

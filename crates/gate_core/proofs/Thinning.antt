@@ -26,6 +26,7 @@ use Rattle.gate_types.specs.Settle.{settle}
 use Rattle.gate_types.specs.Lawful.{IsSound}
 use Rattle.gate_types.specs.Once.{Content}
 use Rattle.gate_types.specs.Tables.{Tables, tables, approval_of, at_stage, change_known, change_row, edited_changes}
+use Rattle.gate_types.specs.Tables.{change_row_in}
 use Rattle.gate_types.specs.Tables.{edited_counters, edited_queue, edited_tables, fold_all, set_counter, Leads}
 use Rattle.gate_types.specs.Rows.{edited_window}
 use Rattle.gate_types.specs.Names.{same_name}
@@ -35,7 +36,6 @@ use Rattle.gate_laws.proofs.Alone.{same_name_of}
 use Rattle.gate_types.specs.Keys.{number_of_change}
 use Rattle.gate_types.proofs.PutLemmas.{put_over, put_swap}
 use Rattle.gate_laws.proofs.RecordedChange.{known_number}
-use Rattle.gate_book_trait.specs.RowReads.{change_row_in}
 use Rattle.gate_book_trait.proofs.Finding.{find_map}
 use Rattle.gate_reads.specs.Moves.{in_state}
 use Rattle.gate_reads.specs.Raw.{MakesReady}

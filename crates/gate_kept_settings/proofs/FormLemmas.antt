@@ -11,7 +11,8 @@ use Rattle.gate_types.specs.Names.{is_name, is_path_name, is_base}
 use Rattle.gate_types.specs.Settings.{Settings, are_sound}
 use Rattle.gate_types.specs.Forms.{is_project_in_form, are_settings_in_form}
 use Rattle.gate_types.specs.Reading.{passing, value_of}
-use Rattle.gate_kept_settings.specs.Reading.{◌>>=◌, each, list_at, truth_at, text_at, name_at, path_name_at}
+use Rattle.gate_types.specs.Reading.{text_at}
+use Rattle.gate_kept_settings.specs.Reading.{◌>>=◌, each, list_at, truth_at, name_at, path_name_at}
 use Rattle.gate_kept_settings.specs.Reading.{base_at, number_at, rule_at, flag_at, job_at, queue_at, project_at}
 use Rattle.gate_kept_settings.specs.Reading.{settings_at, kept_said_by}
 

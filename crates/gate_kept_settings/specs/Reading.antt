@@ -1,6 +1,6 @@
 -- The settings that a text says at its members, whatever stands beside them.
 use Rattle.std.specs.Prelude.{◌≡◌, ℕ, Bool, false, nat_le, List, [], ◌∷◌, codes, Option, Some, None}
-use Rattle.std.specs.Prelude.{option_map, Result, Ok, Err, ⊤}
+use Rattle.std.specs.Prelude.{option_and_then, option_map, Result, Ok, Err, ⊤}
 use Rattle.serde_json.specs.Data.{Data, Items, no_items, item}
 use Rattle.serde_json.specs.Find.{get, as_number, as_u64, as_str, as_bool, as_array}
 use Rattle.gate_types.specs.declared.config.Job.{Job}
@@ -12,15 +12,14 @@ use Rattle.gate_types.specs.declared.config.Pace.TheVariants as pace
 use Rattle.gate_types.specs.Names.{is_name, is_path_name, is_base}
 use Rattle.gate_types.specs.Limits.{most_window}
 use Rattle.gate_types.specs.Settings.{Settings, is_factor, pace_named, are_sound}
-use Rattle.gate_types.specs.Reading.{passing, value_of}
+use Rattle.gate_types.specs.Reading.{passing, text_at, value_of, whole_at}
 use Rattle.gate_kept_settings.specs.declared.fault.TextFault.{TextFault}
 use Rattle.gate_kept_settings.specs.declared.fault.TextFault.TheVariants as fault
 
 -- a value, and then the next one
 infixl 10 ◌>>=◌
 abbrev pub ◌>>=◌ : {A B : Type 0} → Option A → (A → Option B) → Option B
-(Some x) >>= f = f x
-None >>= f = None
+o >>= f = option_and_then f o
 
 -- a call gives what is said, seen by view, unless memory was refused
 abbrev pub GivesKept : {X Y : Type 0} → (X → Y) → Result X TextFault → Option Y → Type 0
@@ -38,15 +37,7 @@ abbrev pub each : {A X : Type 0} → (A → Option X) → List A → Option (Lis
 each f [] = Some []
 each f (d ∷ ds) = f d >>= λ x. option_map (λ xs. x ∷ xs) (each f ds)
 
--- the text of a member
-abbrev pub text_at : List ℕ → Data → Option (List ℕ)
-text_at key d = get key d >>= as_str
-
--- its number, if it is written as a whole number
-abbrev pub whole_at : List ℕ → Data → Option ℕ
-whole_at key d = get key d >>= as_number >>= as_u64
-
--- its truth value
+-- the truth value of a member
 abbrev pub truth_at : List ℕ → Data → Option Bool
 truth_at key d = get key d >>= as_bool
 

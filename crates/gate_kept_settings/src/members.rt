@@ -1,7 +1,8 @@
 //! The members of a JSON value, each read by its kind.
 ghost use Rattle.std.specs.Prelude.{Some, map, string_bytes};
 ghost use Rattle.serde_json.specs.View.{view};
-ghost use Rattle.gate_kept_settings.specs.Reading.{GivesKept, text_at, whole_at, truth_at, list_at, name_at};
+ghost use Rattle.gate_types.specs.Reading.{text_at, whole_at};
+ghost use Rattle.gate_kept_settings.specs.Reading.{GivesKept, truth_at, list_at, name_at};
 ghost use Rattle.gate_kept_settings.specs.Reading.{path_name_at, base_at, number_at, pace_at, factor_at, flag_at};
 
 use crate::fault::TextFault;

@@ -1,5 +1,5 @@
 -- The changes that are held: what edits make of them.
-use Rattle.std.proofs.Common.{◌≡◌, ℕ, suc, ◌+◌, ◌≤◌, Bool, true, false, cond, Option, Some, None, List, [], ◌∷◌}
+use Rattle.std.proofs.Common.{◌≡◌, ℕ, suc, ◌+◌, Bool, true, false, cond, Option, Some, None, List, [], ◌∷◌}
 use Rattle.std.proofs.Common.{refl, sym, ap, subst, ◌∙◌, eqb-true, arith, true≢false}
 use Rattle.std.specs.Prelude.{◌==◌, ◌||◌, filter, fold, is_some, OnOk, OnErr, Result, Ok, Err, option_map}
 use Rattle.std.specs.Prelude.{option_and_then}
@@ -10,10 +10,10 @@ use Rattle.gate_types.specs.declared.edits.Edit.TheVariants as edit
 use Rattle.gate_types.specs.declared.records.Change.{Change}
 use Rattle.gate_types.specs.declared.records.Stage.{Stage}
 use Rattle.gate_types.specs.declared.rows.ChangeRow.{ChangeRow}
-use Rattle.gate_types.specs.Tables.{at_stage, change_known, edited_changes}
+use Rattle.gate_types.specs.Tables.{at_stage, change_known, edited_changes, change_row_in, change_in}
 use Rattle.gate_types.specs.Keys.{number_of_change}
 use Rattle.gate_types.proofs.ChangedLemmas.{found_changed}
-use Rattle.gate_book_trait.specs.RowReads.{change_row_in, approval_in, change_in}
+use Rattle.gate_book_trait.specs.RowReads.{approval_in}
 use Rattle.gate_book_trait.proofs.Finding.{found_has}
 use Rattle.gate_memory.specs.Sorted.{without}
 use Rattle.gate_memory.specs.Changes.{HasRoomForChanges}

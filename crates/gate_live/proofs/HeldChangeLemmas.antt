@@ -11,10 +11,10 @@ use Rattle.gate_types.specs.declared.records.Item.{Item}
 use Rattle.gate_types.specs.declared.records.Ready.{Ready}
 use Rattle.gate_types.specs.declared.rows.ChangeRow.{ChangeRow}
 use Rattle.gate_types.specs.State.{put_by}
-use Rattle.gate_types.specs.Tables.{approval_of}
+use Rattle.gate_types.specs.Tables.{approval_of, change_row_in, change_in, needs_in}
 use Rattle.gate_types.specs.Keys.{number_of_change}
 use Rattle.gate_types.specs.Rising.{RisesFrom, In}
-use Rattle.gate_book_trait.specs.RowReads.{AreReady, change_row_in, approval_in, change_in, needs_in, needing_in}
+use Rattle.gate_book_trait.specs.RowReads.{AreReady, approval_in, needing_in}
 use Rattle.gate_book_trait.specs.RowReads.{ready_needing_in}
 use Rattle.gate_book_trait.proofs.Finding.{all_in, found_in}
 use Rattle.gate_book_trait.proofs.ReadLemmas.{approval_told}

@@ -8,8 +8,7 @@ use Rattle.gate_types.specs.declared.rows.ChangeRow.{ChangeRow}
 use Rattle.gate_types.specs.Settings.{Settings}
 use Rattle.gate_types.specs.State.{known_change}
 use Rattle.gate_types.specs.Once.{Content}
-use Rattle.gate_types.specs.Tables.{Leads, Tables, edited_tables, fold_all, tables}
-use Rattle.gate_book_trait.specs.RowReads.{change_in}
+use Rattle.gate_types.specs.Tables.{Leads, Tables, edited_tables, fold_all, tables, change_in}
 use Rattle.gate_book_trait.proofs.ReadLemmas.{change_is}
 use Rattle.gate_book_trait.specs.Reads as read
 use Rattle.gate_memory.specs.HeldQueues.{LiveQueue}

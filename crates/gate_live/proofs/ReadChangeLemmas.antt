@@ -7,9 +7,9 @@ use Rattle.std.proofs.lemmas.Bool.{eq-eqb, false≢true}
 use Rattle.gate_types.specs.declared.records.Change.{Change}
 use Rattle.gate_types.specs.declared.records.Ready.{Ready}
 use Rattle.gate_types.specs.declared.rows.ChangeRow.{ChangeRow}
-use Rattle.gate_types.specs.Tables.{approval_of}
+use Rattle.gate_types.specs.Tables.{approval_of, change_row_in, change_in}
 use Rattle.gate_types.specs.Rising.{In}
-use Rattle.gate_book_trait.specs.RowReads.{AreReady, change_row_in, change_in}
+use Rattle.gate_book_trait.specs.RowReads.{AreReady}
 use Rattle.gate_book_trait.proofs.Finding.{all_in, in_weaker, found_in, found_has}
 use Rattle.gate_book_trait.proofs.ReadLemmas.{approval_told}
 use Rattle.gate_memory.proofs.LoopLemmas.{all_at}

@@ -31,9 +31,9 @@ use Rattle.gate_types.specs.declared.rows.ChangeRow.{ChangeRow}
 use Rattle.gate_types.specs.State.{put_by}
 use Rattle.gate_types.specs.Settings.{Settings}
 use Rattle.gate_types.specs.Once.{Content}
-use Rattle.gate_types.specs.Tables.{at_stage, change_known, tables}
+use Rattle.gate_types.specs.Tables.{at_stage, change_known, tables, change_row_in}
 use Rattle.gate_types.specs.Keys.{number_of_change}
-use Rattle.gate_book_trait.specs.RowReads.{change_row_in, approval_in}
+use Rattle.gate_book_trait.specs.RowReads.{approval_in}
 use Rattle.gate_memory.specs.Sorted.{without}
 use Rattle.gate_memory.specs.Changes as change_table
 use Rattle.gate_memory.specs.HeldQueues.{LiveQueue, live_queued}

@@ -1,16 +1,16 @@
 -- The indexes of changes, where a change is put or goes.
 use Rattle.std.proofs.Common.{◌≡◌, ◌≢◌, ℕ, zero, suc, ◌<◌, ◌⊎◌, inl, inr, ⊎_elim, false, not, cond, Option, Some}
 use Rattle.std.proofs.Common.{List, [], ◌∷◌, length, get_or, refl, sym, ap, subst, ◌∙◌, arith}
-use Rattle.std.specs.Prelude.{◌==◌, option_map}
+use Rattle.std.specs.Prelude.{◌==◌}
 use Rattle.std.specs.List.{AllByRecursion}
-use Rattle.std.specs.Option.{option_map_or}
 use Rattle.std.proofs.lemmas.Bool.{eq-eqb}
 use Rattle.std.proofs.lemmas.Bool.Decides.{eqb_tells}
 use Rattle.gate_types.specs.declared.rows.ChangeRow.{ChangeRow}
 use Rattle.gate_types.specs.State.{put_by}
 use Rattle.gate_types.specs.Keys.{number_of_change}
 use Rattle.gate_types.specs.Rising.{RisesFrom, In}
-use Rattle.gate_book_trait.specs.RowReads.{change_row_in, needs_in}
+use Rattle.gate_types.specs.Tables.{change_row_in, needs_in}
+use Rattle.gate_types.proofs.ChangedLemmas.{needs_of_row}
 use Rattle.gate_book_trait.proofs.Finding.{all_in, in_weaker}
 use Rattle.gate_memory.specs.declared.pairs.Pair.{Pair}
 use Rattle.gate_memory.specs.Pairs.{IsFit}
@@ -27,10 +27,6 @@ pub in_at : {X : Type 0} (xs : List X) (k : ℕ) (d : X) → k < length xs → I
 in_at [] k d l = absurd (omega arith)
 in_at (x ∷ xs) zero d l = inl refl
 in_at (x ∷ xs) (suc k) d l = inr (in_at xs k d (omega arith))
-
--- the needs that a row tells
-abbrev pub needs_of_row : Option ChangeRow → List ℕ
-needs_of_row o = option_map_or (λ k. k.needs) (option_map (λ (r : ChangeRow). r.change) o) []
 
 -- no need of a change with no pair stands, whatever pair stands is another's
 others_stand : (mid : List Pair) (n : ℕ) (rows : List ChangeRow) (p : Pair) → TellsNoneOf mid n (needs_in rows n) → In p mid → In p.first (needs_in rows p.second) → n ≢ p.second

@@ -15,10 +15,10 @@ use Rattle.gate_types.specs.declared.records.Item.{Item}
 use Rattle.gate_types.specs.declared.rows.ChangeRow.{ChangeRow}
 use Rattle.gate_types.specs.Rising.{In}
 use Rattle.gate_types.proofs.PlainLemmas.{all_push}
+use Rattle.gate_types.specs.Tables.{needs_in}
 use Rattle.gate_memory.specs.declared.pairs.Pair.{Pair}
 use Rattle.gate_memory.specs.Pairs.{IsFit}
 use Rattle.gate_memory.specs.Needs.{TellsNeeds, TellsSerials, IsSmall, pair_of_need, needs_brought, needs_of_all}
-use Rattle.gate_book_trait.specs.RowReads.{needs_in}
 use Rattle.gate_book_trait.proofs.Finding.{all_in, in_weaker}
 
 -- ---- rows that are there

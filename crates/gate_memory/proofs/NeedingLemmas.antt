@@ -14,11 +14,11 @@ use Rattle.std.proofs.lemmas.Option.{none-some}
 use Rattle.gate_types.specs.declared.records.Change.{Change}
 use Rattle.gate_types.specs.declared.records.Ready.{Ready}
 use Rattle.gate_types.specs.declared.rows.ChangeRow.{ChangeRow}
-use Rattle.gate_types.specs.Tables.{approval_of}
+use Rattle.gate_types.specs.Tables.{approval_of, change_row_in, needs_in}
 use Rattle.gate_types.specs.Keys.{number_of_change}
 use Rattle.gate_types.specs.Rising.{RisesFrom, In}
 use Rattle.gate_memory.specs.declared.pairs.Pair.{Pair}
-use Rattle.gate_book_trait.specs.RowReads.{AreReady, change_row_in, needs_in, is_ready_needing, ready_needing_in}
+use Rattle.gate_book_trait.specs.RowReads.{AreReady, is_ready_needing, ready_needing_in}
 use Rattle.gate_memory.specs.Needs.{pair_of_need}
 use Rattle.gate_memory.specs.TableReads.{if_needing, needing_by}
 use Rattle.gate_book_trait.proofs.Finding.{all_in, found_has, found_in}

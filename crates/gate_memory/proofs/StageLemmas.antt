@@ -2,7 +2,7 @@
 use Rattle.std.proofs.Common.{◌≡◌, ℕ, ◌<◌, Bool, true, false, true≢false, cond, Option, Some, None, List, [], ◌∷◌}
 use Rattle.std.proofs.Common.{get_or}
 use Rattle.std.proofs.Common.{set, length, refl, sym, ap, subst, ◌∙◌}
-use Rattle.std.specs.Prelude.{◌==◌, find, nat_eq, option_map}
+use Rattle.std.specs.Prelude.{◌==◌, find, nat_eq}
 use Rattle.std.specs.HashMap.{get}
 use Rattle.std.specs.List.{AllByRecursion}
 use Rattle.std.proofs.lemmas.Bool.{eq-eqb}
@@ -11,9 +11,8 @@ use Rattle.gate_types.specs.declared.records.Stage.{Stage}
 use Rattle.gate_types.specs.declared.rows.ChangeRow.{ChangeRow}
 use Rattle.gate_types.specs.Keys.{number_of_change}
 use Rattle.gate_types.specs.Rising.{In}
-use Rattle.gate_types.specs.Tables.{at_stage, change_known}
-use Rattle.gate_types.proofs.ChangedLemmas.{changed_none, found_changed, found_key, put_changes}
-use Rattle.gate_book_trait.specs.RowReads.{needs_in, change_row_in}
+use Rattle.gate_types.specs.Tables.{at_stage, change_known, needs_in}
+use Rattle.gate_types.proofs.ChangedLemmas.{changed_none, found_key, needs_at_stage, put_changes}
 use Rattle.gate_book_trait.proofs.Finding.{in_weaker}
 use Rattle.gate_memory.specs.declared.pairs.Pair.{Pair}
 use Rattle.gate_memory.specs.Pairs.{IsFit}
@@ -22,7 +21,6 @@ use Rattle.gate_memory.specs.Needs.{AreNeeds, TellsNeeds, TellsNeedsOf}
 use Rattle.gate_memory.proofs.TableLemmas.{in_order_set, numbers_set, position_bound, row_at, row_found}
 use Rattle.gate_memory.proofs.MovedLemmas.{apart_set}
 use Rattle.gate_memory.proofs.ChangeLemmas.{dropped, in_dropped, in_order_rises}
-use Rattle.gate_memory.proofs.NeedChangeLemmas.{needs_of_row}
 
 -- ---- the row of a position
 
@@ -65,14 +63,6 @@ tells_stage was n g ready (r ∷ rs) small fit told = (by_number (number_of_chan
     by_number true same a e = absurd (none-some a e)
     by_number false other a e = in_dropped was n ready (indexed_ready r.change.number a) small fit (λ e2. true≢false (sym (eq-eqb r.change.number n e2) ∙ other)) (told.0 a e)
 
-needs_same : (n : ℕ) (g : Stage) (o : Option ChangeRow) → needs_of_row (option_map (λ (r : ChangeRow). cond (number_of_change r == n) (at_stage g r) r) o) ≡ needs_of_row o
-needs_same n g None = refl
-needs_same n g (Some r) = elim (number_of_change r == n) as (λ c. (cond c (at_stage g r) r).change.needs ≡ r.change.needs) [ true ↦ refl | false ↦ refl ]
-
--- a change at another stage needs what it did
-pub needs_staged : (n : ℕ) (g : Stage) (rows : List ChangeRow) (m : ℕ) → needs_in (change_known n (at_stage g) rows) m ≡ needs_in rows m
-needs_staged n g rows m = ap needs_of_row (found_changed number_of_change n (at_stage g) (λ r. refl) m rows) ∙ needs_same n g (change_row_in rows m)
-
 pub tells_needs_staged : (needs : List Pair) (n : ℕ) (g : Stage) (rows : List ChangeRow) → TellsNeeds needs rows → TellsNeeds needs (change_known n (at_stage g) rows)
 tells_needs_staged needs n g [] told = tt
 tells_needs_staged needs n g (r ∷ rs) told =
@@ -81,4 +71,4 @@ tells_needs_staged needs n g (r ∷ rs) told =
 pub are_needs_staged : (needs : List Pair) (n : ℕ) (g : Stage) (rows : List ChangeRow) → AreNeeds needs rows → AreNeeds needs (change_known n (at_stage g) rows)
 are_needs_staged needs n g rows stand =
     in_weaker (λ (p : Pair). In p.first (needs_in rows p.second)) (λ (p : Pair). In p.first (needs_in (change_known n (at_stage g) rows) p.second))
-    (λ p t. subst (λ ns. In p.first ns) (sym (needs_staged n g rows p.second)) t) needs stand
+    (λ p t. subst (λ ns. In p.first ns) (sym (needs_at_stage n g rows p.second)) t) needs stand

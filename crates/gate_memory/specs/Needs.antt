@@ -6,7 +6,7 @@ use Rattle.gate_types.specs.declared.edits.Edit.TheVariants as edit
 use Rattle.gate_types.specs.declared.records.Item.{Item}
 use Rattle.gate_types.specs.declared.rows.ChangeRow.{ChangeRow}
 use Rattle.gate_types.specs.Rising.{RisesFrom, In}
-use Rattle.gate_book_trait.specs.RowReads.{needs_in}
+use Rattle.gate_types.specs.Tables.{needs_in}
 use Rattle.gate_memory.specs.Pairs.{pair_key}
 use Rattle.gate_memory.specs.declared.pairs.Pair.{Pair}
 

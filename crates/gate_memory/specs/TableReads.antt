@@ -6,8 +6,9 @@ use Rattle.gate_types.specs.declared.records.Build.{Build}
 use Rattle.gate_types.specs.declared.records.Item.{Item}
 use Rattle.gate_types.specs.declared.records.Ready.{Ready}
 use Rattle.gate_types.specs.declared.rows.ChangeRow.{ChangeRow}
+use Rattle.gate_types.specs.Tables.{change_row_in}
 use Rattle.gate_memory.specs.Builds.{is_live_of}
-use Rattle.gate_book_trait.specs.RowReads.{AreReady, change_row_in, ready_needing_in}
+use Rattle.gate_book_trait.specs.RowReads.{AreReady, ready_needing_in}
 use Rattle.gate_memory.specs.declared.pairs.Pair.{Pair}
 
 -- a change as a ready one, if it is ready and needs another

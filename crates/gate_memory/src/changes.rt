@@ -9,9 +9,9 @@ ghost use Rattle.std.specs.HashMap.{get, spare};
 ghost use Rattle.gate_types.specs.State.{put_by};
 ghost use Rattle.gate_types.specs.Keys.{number_of_change};
 ghost use Rattle.gate_types.specs.Rising.{RisesFrom, In};
-ghost use Rattle.gate_types.specs.Tables.{at_stage, change_known};
+ghost use Rattle.gate_types.specs.Tables.{at_stage, change_known, change_in, needs_in};
 ghost use Rattle.gate_memory.specs.Sorted.{without};
-ghost use Rattle.gate_book_trait.specs.RowReads.{change_in, needs_in, approval_in};
+ghost use Rattle.gate_book_trait.specs.RowReads.{approval_in};
 ghost use Rattle.gate_memory.specs.TableReads.{needing_by, IsWhatRowsTellOf};
 ghost use Rattle.gate_memory.specs.Pairs.{pair_key};
 ghost use Rattle.gate_memory.specs.declared.pairs.Pair.{Pair};
@@ -387,7 +387,8 @@ impl ChangeTable {
         requires room { HasRoomForChanges 1 (length row.change.needs) self.old }
         ensures rows { changes_of self.new ≡ put_by number_of_change row (changes_of self.old) }
         ensures kept { IsKeptChangeTable self.new }
-        ensures room { (n m : ℕ) → HasRoomForChanges (suc n) (length row.change.needs + m) self.old → HasRoomForChanges n m self.new }
+        ensures room { (n m : ℕ) →
+            HasRoomForChanges (suc n) (length row.change.needs + m) self.old → HasRoomForChanges n m self.new }
     {
         let number = number_of_row(&row);
         let approval = row.approval;

@@ -1,20 +1,18 @@
 -- What is told of a change and its needs, where it is put, or its stage is set.
 use Rattle.std.proofs.Common.{◌≡◌, ℕ, suc, List, [], ◌∷◌, ◌++◌, filter, Bool, true, false, not, cond, eqb, Some}
-use Rattle.std.proofs.Common.{None, Option, refl, sym, ap, subst, ◌∙◌, arith, append-nil, map, nat_eq}
+use Rattle.std.proofs.Common.{Option, refl, sym, ap, subst, ◌∙◌, arith, append-nil, map, nat_eq}
 use lib.Pointwise.{bytes_decides, pointwise}
-use Rattle.std.specs.Option.{option_map_or}
-use Rattle.std.specs.Prelude.{find, option_map}
 use Rattle.std.proofs.lemmas.Bool.Decides.{nat_tests}
 use Rattle.gate_types.specs.State.{put_by}
-use Rattle.gate_types.specs.Tables.{Tables, at_stage, change_known, edited_queue, edited_tables}
+use Rattle.gate_types.specs.Tables.{Tables, at_stage, change_known, change_row_in, edited_queue, edited_tables, needs_in}
 use Rattle.gate_types.specs.declared.edits.Edit.TheVariants as edit
 use Rattle.gate_types.specs.declared.records.Change.{Change}
 use Rattle.gate_types.specs.declared.records.Stage.{Stage}
 use Rattle.gate_types.specs.declared.rows.ChangeRow.{ChangeRow}
-use Rattle.gate_types.proofs.ChangedLemmas.{found_changed}
+use Rattle.gate_types.proofs.ChangedLemmas.{needs_at_stage, needs_of_row}
 use Rattle.gate_schema.specs.Edits.{after_edit, change_with, need_rows, standing_needs}
 use Rattle.gate_schema.specs.Rows.{NeedRow, Stored, change_key}
-use Rattle.gate_rows.specs.Matches.{IsInOrder, Matches, needs_in}
+use Rattle.gate_rows.specs.Matches.{IsInOrder, Matches}
 use Rattle.gate_rows.proofs.PutLemmas.{filter-append, find_put, put_is}
 use Rattle.gate_rows.proofs.MatchLemmas.{queues_stay}
 
@@ -58,7 +56,7 @@ matches_change k a b t order h =
     record {
       queues_are = queues_stay (edited_queue (edit.PutChange k a)) (λ q. refl) (λ q. refl) (λ q. refl) (λ q. refl) (λ q. refl) _ _ _ _ _ h.queues_are;
       changes_are = put_is change_key x b.changes order.changes ∙ ap (put_by change_key x) h.changes_are;
-      needs_are = λ n. go n (pointwise nat_eq (standing_needs k.number b.needs) k.needs) refl (eqb k.number n) refl ∙ sym (ap (λ o. need_rows n 0 (option_map_or (λ (r : ChangeRow). r.change.needs) o [])) (find_put change_key n x t.changes));
+      needs_are = λ n. go n (pointwise nat_eq (standing_needs k.number b.needs) k.needs) refl (eqb k.number n) refl ∙ sym (ap (λ o. need_rows n 0 (needs_of_row o)) (find_put change_key n x t.changes));
       counters_are = h.counters_are;
       builds_are = h.builds_are;
       kept_are = h.kept_are;
@@ -68,13 +66,13 @@ matches_change k a b t order h =
     -- the needs that were put, of the change or of another
     put : (n : ℕ) (c : Bool) → eqb k.number n ≡ c
         → (cond c [] (need_rows n 0 (needs_in t.changes n)) ++ cond c (need_rows k.number 0 k.needs) [])
-        ≡ need_rows n 0 (option_map_or (λ (r : ChangeRow). r.change.needs) (cond c (Some (change_with k a)) (find (λ (r : ChangeRow). eqb r.change.number n) t.changes)) [])
+        ≡ need_rows n 0 (needs_of_row (cond c (Some (change_with k a)) (change_row_in t.changes n)))
     put n true e = let same : k.number ≡ n = grind (arith, nat_tests) in ap (λ m. need_rows m 0 k.needs) same
     put n false e = append-nil (need_rows n 0 (needs_in t.changes n))
 
     go : (n : ℕ) (s : Bool) → pointwise nat_eq (standing_needs k.number b.needs) k.needs ≡ s → (c : Bool) → eqb k.number n ≡ c
         → filter (λ (y : NeedRow). eqb y.change n) (cond s b.needs (filter (λ (y : NeedRow). not (eqb y.change k.number)) b.needs ++ need_rows k.number 0 k.needs))
-        ≡ need_rows n 0 (option_map_or (λ (r : ChangeRow). r.change.needs) (cond c (Some (change_with k a)) (find (λ (r : ChangeRow). eqb r.change.number n) t.changes)) [])
+        ≡ need_rows n 0 (needs_of_row (cond c (Some (change_with k a)) (change_row_in t.changes n)))
     go n true s true e =
         let is : k.number ≡ n = grind (arith, nat_tests) in
         let needed : needs_in t.changes k.number ≡ k.needs = sym (needed_of_rows k.number 0 (needs_in t.changes k.number)) ∙ ap (map (λ (y : NeedRow). y.needed)) (sym (h.needs_are k.number)) ∙ (bytes_decides _ _).0 s in
@@ -89,18 +87,6 @@ matches_change k a b t order h =
         ∙ put n c e
 
 -- ---- a stage set
-
-needs_same : (n : ℕ) (g : Stage) (o : Option ChangeRow)
-    → option_map_or (λ (r : ChangeRow). r.change.needs) (option_map (λ (r : ChangeRow). cond (eqb r.change.number n) (at_stage g r) r) o) []
-    ≡ option_map_or (λ (r : ChangeRow). r.change.needs) o []
-needs_same n g None = refl
-needs_same n g (Some r) = elim (eqb r.change.number n) as (λ c. (cond c (at_stage g r) r).change.needs ≡ r.change.needs) [ true ↦ refl | false ↦ refl ]
-
--- a change at another stage needs what it did
-pub needs_at_stage : (n : ℕ) (g : Stage) (rows : List ChangeRow) (m : ℕ) → needs_in (change_known n (at_stage g) rows) m ≡ needs_in rows m
-needs_at_stage n g rows m =
-    ap (λ o. option_map_or (λ (r : ChangeRow). r.change.needs) o []) (found_changed change_key n (at_stage g) (λ r. refl) m rows)
-    ∙ needs_same n g (find (λ (r : ChangeRow). eqb r.change.number m) rows)
 
 pub matches_stage : (n : ℕ) (g : Stage) (b : Stored) (t : Tables) → Matches b t → Matches (after_edit (edit.SetStage n g) b) (edited_tables t (edit.SetStage n g))
 matches_stage n g b t h = record {

@@ -9,7 +9,7 @@ use Rattle.gate_types.specs.Names.{same_name}
 use Rattle.gate_types.specs.Once.{Content}
 use Rattle.gate_types.specs.Settings.{Settings}
 use Rattle.gate_types.specs.SettingsText.{settings_text}
-use Rattle.gate_types.specs.Tables.{QueueRows, Tables, edited_tables, tables}
+use Rattle.gate_types.specs.Tables.{QueueRows, Tables, edited_tables, needs_in, tables}
 use Rattle.gate_types.specs.declared.config.Job.{Job}
 use Rattle.gate_types.specs.declared.edits.Edit.{Edit}
 use Rattle.gate_types.specs.declared.edits.Edit.TheVariants as edit
@@ -44,11 +44,6 @@ of_queue list name queues = option_map_or list (find (λ (q : QueueRows). same_n
 abbrev pub placed : ℕ → List QueueRows → List QueueRow
 placed n [] = []
 placed n (q ∷ qs) = (record { name = q.name; place = n; window = q.window }) ∷ placed (suc n) qs
-
--- the needs of a change; none where it isn't known
-abbrev pub needs_in : List ChangeRow → ℕ → List ℕ
-needs_in rows n =
-    option_map_or (λ (r : ChangeRow). r.change.needs) (find (λ (r : ChangeRow). r.change.number == n) rows) []
 
 -- the jobs of the plan under a serial; none where there is no plan
 abbrev pub jobs_in : List Plan → ℕ → List Job

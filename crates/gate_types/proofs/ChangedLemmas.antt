@@ -2,9 +2,15 @@
 use Rattle.std.proofs.Common.{◌≡◌, ◌<◌, ◌≤◌, ℕ, suc, Bool, true, false, cond, eqb, ltb, List, [], ◌∷◌, map, Option}
 use Rattle.std.proofs.Common.{Some, None, refl, sym, ap, ◌∙◌, arith}
 use Rattle.std.specs.Prelude.{find, option_map}
+use Rattle.std.specs.Option.{option_map_or}
 use Rattle.std.proofs.lemmas.Bool.{eqb-true, eq-eqb, ne_eqb, le-ltb}
+use Rattle.gate_types.specs.declared.records.Change.{Change}
+use Rattle.gate_types.specs.declared.records.Stage.{Stage}
+use Rattle.gate_types.specs.declared.rows.ChangeRow.{ChangeRow}
+use Rattle.gate_types.specs.Keys.{number_of_change}
 use Rattle.gate_types.specs.State.{put_by}
 use Rattle.gate_types.specs.Rising.{RisesFrom}
+use Rattle.gate_types.specs.Tables.{at_stage, change_known, change_row_in, needs_in}
 
 module _ {X : Type 0} (key : X → ℕ) (n : ℕ) where
   -- what is found of a key has it
@@ -107,3 +113,23 @@ module _ {X : Type 0} (key : X → ℕ) (n : ℕ) (f : X → X) where
             let other : eqb (key (f x)) (key y) ≡ false = ne_eqb (key (f x)) (key y) (λ same. omega (arith, same, at)) in
             let behind : ltb (key (f x)) (key y) ≡ false = le-ltb (key (f x)) (key y) (omega arith) in
             tests false false other behind ∙ ap (λ l. y ∷ l) (more e2)
+
+-- ---- the needs of a change at another stage
+
+-- the needs that a row tells
+abbrev pub needs_of_row : Option ChangeRow → List ℕ
+needs_of_row o = option_map_or (λ (k : Change). k.needs) (option_map (λ (r : ChangeRow). r.change) o) []
+
+needs_same : (n : ℕ) (g : Stage) (o : Option ChangeRow) →
+    needs_of_row (option_map (λ (r : ChangeRow). cond (eqb (number_of_change r) n) (at_stage g r) r) o) ≡ needs_of_row o
+needs_same n g None = refl
+needs_same n g (Some r) =
+    elim (eqb (number_of_change r) n) as (λ c. (cond c (at_stage g r) r).change.needs ≡ r.change.needs)
+    [ true ↦ refl | false ↦ refl ]
+
+-- a change at another stage needs what it did
+pub needs_at_stage : (n : ℕ) (g : Stage) (rows : List ChangeRow) (m : ℕ) →
+    needs_in (change_known n (at_stage g) rows) m ≡ needs_in rows m
+needs_at_stage n g rows m =
+    ap needs_of_row (found_changed number_of_change n (at_stage g) (λ r. refl) m rows)
+    ∙ needs_same n g (change_row_in rows m)

@@ -1,6 +1,7 @@
 -- What the tables hold of a whole content, and what edits make of that.
 use Rattle.std.specs.Prelude.{ℕ, false, not, ◌==◌, ◌≡◌, if◌then◌else◌, suc, List, [], ◌∷◌, ◌++◌, map, filter, fold}
 use Rattle.std.specs.Prelude.{Option, None, option_map, find}
+use Rattle.std.specs.Option.{option_map_or}
 use Rattle.gate_types.specs.declared.records.Change.{Change}
 use Rattle.gate_types.specs.declared.records.Item.{Item as ItemRow}
 use Rattle.gate_types.specs.declared.records.Landing.{Landing}
@@ -81,6 +82,20 @@ tables_with items x = record {
 -- the tables of a content, both columns of its items worked out
 abbrev pub tables : Settings → Content → Tables
 tables c x = tables_with (item_rows c x.state) x
+
+-- ---- what the rows of changes tell of one
+
+-- the row of a change
+abbrev pub change_row_in : List ChangeRow → ℕ → Option ChangeRow
+change_row_in rows n = find (λ r. r.change.number == n) rows
+
+-- what is known of a change
+abbrev pub change_in : List ChangeRow → ℕ → Option Change
+change_in rows n = option_map (λ r. r.change) (change_row_in rows n)
+
+-- the needs of a change; none where it isn't known
+abbrev pub needs_in : List ChangeRow → ℕ → List ℕ
+needs_in rows n = option_map_or (λ k. k.needs) (change_in rows n) []
 
 -- ---- what edits make of tables
 

@@ -1,9 +1,8 @@
 -- The delivery that bytes say at a door.
 use Rattle.std.specs.Prelude.{◌≡◌, ◌≢◌, ℕ, Bool, ◌&&◌, nat_le, List, codes, if◌then◌else◌, Option, Some, None}
-use Rattle.std.specs.Prelude.{option_and_then, Result, Ok, Err, MatchResult}
+use Rattle.std.specs.Prelude.{Result, Ok, Err, MatchResult}
 use Rattle.std.specs.Str.{bytes_eq}
 use Rattle.serde_json.specs.Data.{Data}
-use Rattle.serde_json.specs.Find.{get, as_number, as_u64, as_str}
 use Rattle.uuid.specs.Text.{parsed}
 use Rattle.gate_types.specs.declared.records.Id.{Id}
 use Rattle.gate_types.specs.declared.deliveries.Ending.{Ending}
@@ -19,7 +18,7 @@ use Rattle.gate_wire.specs.declared.door.Kind.{Kind}
 use Rattle.gate_wire.specs.declared.door.Kind.TheVariants as kind
 use Rattle.gate_wire.specs.Kinds.{kind_named, opens_to}
 use Rattle.gate_types.specs.Counters.{last_number}
-use Rattle.gate_types.specs.Reading.{passing, value_of}
+use Rattle.gate_types.specs.Reading.{passing, text_at, value_of, whole_at}
 
 -- a value or the first refusal, and then the next one's
 infixl 10 ◌>>=◌
@@ -35,14 +34,6 @@ Gives view result said = MatchResult result (λ x. said ≡ Ok (view x)) (λ e. 
 abbrev pub or_bad : {A : Type 0} → Option A → Result A Refusal
 or_bad (Some x) = Ok x
 or_bad None = Err refusal.BadDelivery
-
--- the number of a member, if it is written as a whole number
-abbrev pub whole_at : List ℕ → Data → Option ℕ
-whole_at name d = option_and_then as_u64 (option_and_then as_number (get name d))
-
--- the text of a member
-abbrev pub text_at : List ℕ → Data → Option (List ℕ)
-text_at name d = option_and_then as_str (get name d)
 
 -- a whole number from 1 to the highest
 abbrev pub whole_up_to : ℕ → List ℕ → Data → Result ℕ Refusal

@@ -1,7 +1,8 @@
 //! The members of a delivery, each read from its JSON value.
 ghost use Rattle.std.specs.Prelude.{◌≡◌, string_bytes, Ok};
 ghost use Rattle.serde_json.specs.View.{view};
-ghost use Rattle.gate_wire.specs.Reading.{Gives, or_bad, whole_at, text_at, id_at, kind_at, change_at, revision_at};
+ghost use Rattle.gate_types.specs.Reading.{text_at, whole_at};
+ghost use Rattle.gate_wire.specs.Reading.{Gives, or_bad, id_at, kind_at, change_at, revision_at};
 ghost use Rattle.gate_wire.specs.Reading.{order_at, build_at, project_name_at, worker_at, message_at, ending_at};
 ghost use Rattle.gate_wire.specs.Reading.{ending_named, text_of_form};
 ghost use Rattle.gate_types.specs.Names.{is_path_name};
@@ -116,7 +117,7 @@ fn path_name_of(alloc: Global, value: &Value, name: &str) -> Result<PathName, Re
     }
 }
 
-#[tactic(auto, unfolding(crate::specs::Reading::project_at))]
+#[tactic(auto, unfolding(crate::specs::Reading::project_name_at))]
 pub(crate) fn project_of(alloc: Global, value: &Value) -> Result<PathName, Refusal>
     ensures { Gives (λ x. x) result (project_name_at (view value.now)) }
 {

@@ -18,15 +18,14 @@ use Rattle.gate_types.specs.Forms.{IsLawfulContent}
 use Rattle.gate_types.specs.Once.{Content}
 use Rattle.gate_types.specs.Settings.{Settings}
 use Rattle.gate_types.specs.State.{State, change_of, is_open, known_change}
-use Rattle.gate_types.specs.Tables.{approval_of, change_row, tables}
+use Rattle.gate_types.specs.Tables.{approval_of, change_row, tables, needs_in}
 use Rattle.gate_types.specs.Lawful.{IsSound}
 use Rattle.gate_types.specs.Rising.{In}
 use Rattle.gate_schema.specs.Edits.{need_rows}
 use Rattle.gate_schema.specs.Rows.{NeedRow, Stored, change_key}
 use Rattle.gate_schema.specs.Shown.{needs_among}
-use Rattle.gate_rows.specs.Matches.{Matches, needs_in}
+use Rattle.gate_rows.specs.Matches.{Matches}
 use Rattle.gate_book_trait.specs.Reads as content
-use Rattle.gate_book_trait.specs.RowReads as table
 use Rattle.gate_book_trait.proofs.ReadLemmas as read
 use Rattle.gate_found_rows.specs.Asked as file
 use Rattle.gate_laws.proofs.Alone.{changes_once, ready_changes}
@@ -153,15 +152,6 @@ any_need : (number n place : ℕ) (needs : List ℕ) →
 any_need number n place [] = refl
 any_need number n place (m ∷ ms) = ap (λ t. m == n || t) (any_need number n (suc place) ms)
 
--- the needs of a change's row are those of what is known of it
-needs_known : (rows : List ChangeRow) (n : ℕ) → needs_in rows n ≡ table.needs_in rows n
-needs_known rows n = by_row (find (λ (r : ChangeRow). r.change.number == n) rows)
-  where
-    by_row : (o : Option ChangeRow) → option_map_or (λ (r : ChangeRow). r.change.needs) o [] ≡
-        option_map_or (λ k. k.needs) (option_map (λ (r : ChangeRow). r.change) o) []
-    by_row None = refl
-    by_row (Some r) = refl
-
 module _ (c : Settings) (x : Content) (b : Stored) (told : Matches b (tables c x)) where
   -- what is known of a change
   pub change_is : (n : ℕ) → file.stored_change b n ≡ known_change x.state n
@@ -181,7 +171,7 @@ module _ (c : Settings) (x : Content) (b : Stored) (told : Matches b (tables c x
       any_filter (λ (r : NeedRow). r.change == number) (λ (r : NeedRow). r.needed == n) b.needs
       ∙ ap (list_any (λ (r : NeedRow). r.needed == n)) (told.needs_are number)
       ∙ any_need number n 0 (needs_in (tables c x).changes number)
-      ∙ ap (list_any (λ m. m == n)) (needs_known (tables c x).changes number ∙ read.needs_are c x number)
+      ∙ ap (list_any (λ m. m == n)) (read.needs_are c x number)
 
   -- the ready list
   pub ready_is : IsLawfulContent c x → (found : List Ready) → file.AreReadyByApproval b found → found ≡ x.state.ready

@@ -1,6 +1,5 @@
 use Rattle.std.proofs.Common.{◌≡◌, ◌∙◌, Some, sym}
-use Rattle.gate_types.specs.Tables.{tables}
-use Rattle.gate_book_trait.specs.RowReads.{change_in}
+use Rattle.gate_types.specs.Tables.{tables, change_in}
 use Rattle.gate_book_trait.proofs.ReadLemmas.{change_is}
 use Rattle.gate_live.specs.HeldChanges.{changes_held}
 use Rattle.gate_live.proofs.ChangeEditLemmas.{held_read}

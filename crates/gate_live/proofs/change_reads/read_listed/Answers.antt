@@ -1,9 +1,9 @@
 use Rattle.std.proofs.Common.{◌≡◌, ◌∙◌, ◌+◌, None, Some, List, take, sym, subst, rules}
 use Rattle.std.proofs.lemmas.List.{take_all}
-use Rattle.gate_types.specs.Tables.{tables}
+use Rattle.gate_types.specs.Tables.{tables, change_in}
 use Rattle.gate_types.specs.declared.records.Ready.{Ready}
 use Rattle.gate_types.specs.declared.rows.ChangeRow.{ChangeRow}
-use Rattle.gate_book_trait.specs.RowReads.{AreReady, change_in}
+use Rattle.gate_book_trait.specs.RowReads.{AreReady}
 use Rattle.gate_book_trait.proofs.ReadLemmas.{change_is, ready_are}
 use Rattle.gate_live.specs.HeldChanges.{changes_held}
 use Rattle.gate_book_trait.proofs.KeptLemmas.{then}

@@ -1,6 +1,6 @@
 use Rattle.std.proofs.Common.{◌≡◌, ◌∙◌, Option, Some, ap, sym, subst}
 use Rattle.std.specs.Prelude.{option_map}
-use Rattle.gate_book_trait.specs.RowReads.{change_in}
+use Rattle.gate_types.specs.Tables.{change_in}
 use Rattle.gate_live.specs.HeldChanges.{AnyAreHeldOf, AreRowsOf, changes_held}
 use Rattle.gate_live.specs.declared.held_changes.HeldChanges.{HeldChanges}
 use Rattle.gate_live.proofs.ChangeEditLemmas.{number_is}

@@ -1,11 +1,11 @@
 use Rattle.std.proofs.Common.{◌≡◌, ◌∙◌, List, [], sym, ap, subst}
 use Rattle.gate_types.specs.declared.rows.ChangeRow.{ChangeRow}
 use Rattle.gate_types.specs.Keys.{number_of_change}
-use Rattle.gate_book_trait.specs.RowReads.{needs_in}
+use Rattle.gate_types.specs.Tables.{needs_in}
+use Rattle.gate_types.proofs.ChangedLemmas.{needs_of_row}
 use Rattle.gate_book_trait.proofs.Finding.{found_has}
 use Rattle.gate_memory.specs.Needs.{TellsNoneOf}
 use Rattle.gate_memory.specs.Changes.{in_order}
-use Rattle.gate_memory.proofs.NeedChangeLemmas.{needs_of_row}
 use Rattle.gate_memory.proofs.changes.forget_row.Goals as goal
 
 pub returns-in-Some-clause-gone : goal.returns-in-Some-clause-gone

@@ -1,6 +1,5 @@
 use Rattle.std.proofs.Common.{◌∙◌, ap, rules}
-use Rattle.gate_types.specs.Tables.{Tables}
-use Rattle.gate_book_trait.specs.RowReads.{change_in}
+use Rattle.gate_types.specs.Tables.{Tables, change_in}
 use Rattle.gate_book_trait.proofs.ReadLemmas.{change_is}
 use Rattle.gate_book_trait.proofs.ReadingLemmas.{is_read}
 use Rattle.gate_book.specs.Memory.{Held}

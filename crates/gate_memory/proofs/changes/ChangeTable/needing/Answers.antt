@@ -2,10 +2,10 @@ use Rattle.std.proofs.Common.{◌≡◌, refl, subst, eqb-true, arith}
 use Rattle.std.specs.Prelude.{◌==◌, filter}
 use Rattle.std.proofs.lemmas.Bool.{eq-eqb}
 use Rattle.gate_types.specs.Rising.{In}
+use Rattle.gate_types.specs.Tables.{needs_in}
 use Rattle.gate_memory.specs.declared.pairs.Pair.{Pair}
 use Rattle.gate_memory.specs.Changes.{changes_of}
 use Rattle.gate_memory.specs.Needs.{IsSmall, pair_of_need}
-use Rattle.gate_book_trait.specs.RowReads.{needs_in}
 use Rattle.gate_book_trait.proofs.Finding.{all_in}
 use Rattle.gate_memory.proofs.NeedLemmas.{all_filter, all_from, from_filter, in_filter, needed_told, small_fit}
 use Rattle.gate_memory.proofs.PairLemmas.{seconds_rise}

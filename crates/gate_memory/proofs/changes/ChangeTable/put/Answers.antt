@@ -2,11 +2,11 @@ use Rattle.std.proofs.Common.{◌≡◌, ◌≢◌, ◌∙◌, ◌<◌, List, Op
 use Rattle.std.specs.List.{AllByRecursion}
 use Rattle.gate_types.specs.Keys.{number_of_change}
 use Rattle.gate_types.specs.Rising.{In}
+use Rattle.gate_types.specs.Tables.{needs_in}
 use Rattle.gate_memory.specs.Pairs.{IsFit}
 use Rattle.gate_memory.specs.Changes.{TellsReady, in_order}
 use Rattle.gate_memory.specs.declared.pairs.Pair.{Pair}
 use Rattle.gate_memory.specs.Needs.{AreNeeds, TellsNeeds, TellsNoneOf}
-use Rattle.gate_book_trait.specs.RowReads.{needs_in}
 use Rattle.gate_memory.proofs.ChangeLemmas.{in_order_rises, dropped, noted, put_ready, fit_dropped, fit_noted}
 use Rattle.gate_memory.proofs.ChangeLemmas.{tells_put}
 use Rattle.gate_memory.proofs.NeedChangeLemmas.{tells_needs_put, are_needs_put}

@@ -2,7 +2,7 @@ use Rattle.std.proofs.Common.{◌≡◌, ◌≢◌, ◌<◌, List, Option, arith
 use Rattle.std.specs.List.{AllByRecursion}
 use Rattle.gate_types.specs.Keys.{number_of_change}
 use Rattle.gate_types.specs.Rising.{In}
-use Rattle.gate_book_trait.specs.RowReads.{needs_in}
+use Rattle.gate_types.specs.Tables.{needs_in}
 use Rattle.gate_memory.specs.declared.pairs.Pair.{Pair}
 use Rattle.gate_memory.specs.Pairs.{IsFit}
 use Rattle.gate_memory.specs.Needs.{AreNeeds, TellsNeeds, TellsNoneOf}
