@@ -1,5 +1,4 @@
 -- lists, and rows that are put over stored ones
-pub mod Calls
 pub mod Along
 pub mod Rows
 pub mod QueueItems

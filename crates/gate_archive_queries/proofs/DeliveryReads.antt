@@ -44,7 +44,7 @@ use Rattle.gate_schema.proofs.ValueLemmas.{equal_blobs}
 use Rattle.gate_found_rows.specs.Finds.{Finds, IsPlainQuery}
 use Rattle.gate_found_rows.specs.Reads.{IsStoredIn}
 use Rattle.gate_found_rows.proofs.KeyedReads.{truth_of}
-use Rattle.gate_schema.proofs.ListedQueries.{told_behind}
+use Rattle.gate_schema.proofs.RowLemmas.{told_behind}
 use Rattle.gate_found_rows.proofs.ReadLemmas.{answers}
 use Rattle.gate_archive_queries.specs.Deliveries.{HoldAbove, IsFirstOf, IsPlaceOf, WritesDeliveries, accepted}
 use Rattle.gate_archive_queries.specs.Deliveries.{accepted_shown, is_above, accepted_line}

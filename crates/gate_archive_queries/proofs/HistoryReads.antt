@@ -45,7 +45,8 @@ use Rattle.gate_found_rows.specs.Reads.{IsStoredIn}
 use Rattle.gate_found_rows.proofs.GreatestLemmas.{greatest_in_any_order, larger}
 use Rattle.gate_found_rows.proofs.KeyedReads.{rises, truth_of}
 use Rattle.gate_found_rows.proofs.ListFacts.{filter_in}
-use Rattle.gate_schema.proofs.ListedQueries.{kept_shown, told_behind}
+use Rattle.gate_schema.proofs.ListedQueries.{kept_shown}
+use Rattle.gate_schema.proofs.RowLemmas.{told_behind}
 use Rattle.gate_found_rows.proofs.ReadLemmas.{answers}
 use Rattle.gate_queue_queries.specs.History.{report_shown}
 use Rattle.gate_queue_queries.proofs.ReportReads.{report_terms, history_names, numbered_rises, numbered_shown, out}

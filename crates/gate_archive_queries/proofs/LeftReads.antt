@@ -21,7 +21,8 @@ use Rattle.gate_schema.proofs.Statements.{Asks, key_is, no_limit, rising}
 use Rattle.gate_schema.proofs.ValueLemmas.{equal_numbers}
 use Rattle.gate_found_rows.specs.Finds.{Finds}
 use Rattle.gate_found_rows.specs.Reads.{IsStoredIn}
-use Rattle.gate_schema.proofs.ListedQueries.{listed_in_turn, told_behind}
+use Rattle.gate_schema.proofs.ListedQueries.{listed_in_turn}
+use Rattle.gate_schema.proofs.RowLemmas.{told_behind}
 use Rattle.gate_found_rows.proofs.ReadLemmas.{answers}
 use Rattle.gate_archive_queries.specs.Asked.{is_left_in_form, left_shown}
 

@@ -26,7 +26,7 @@ use Rattle.gate_found_rows.specs.Reads.{IsStoredIn}
 use Rattle.gate_found_rows.specs.Shown.{job_shown, number_shown}
 use Rattle.gate_found_rows.specs.Whole.{IsWhole, is_job_row_in_form}
 use Rattle.gate_found_rows.proofs.KeyedReads.{finds_few, one_at}
-use Rattle.gate_schema.proofs.ListedQueries.{told_behind}
+use Rattle.gate_schema.proofs.RowLemmas.{told_behind}
 use Rattle.gate_found_rows.proofs.ListedReads.{listed_rising}
 use Rattle.gate_build_queries.proofs.PlanTexts.{fast_asks, fast_query, fast_sql, jobs_asks, jobs_names, jobs_query}
 use Rattle.gate_build_queries.proofs.PlanTexts.{jobs_sql, jobs_terms}

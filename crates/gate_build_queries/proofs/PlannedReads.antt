@@ -33,7 +33,7 @@ use Rattle.gate_found_rows.specs.Whole.{IsWhole, is_item_row_in_form, is_job_row
 use Rattle.gate_build_queries.proofs.BetweenReads.{between_params, between_query, finds_between}
 use Rattle.gate_found_rows.proofs.DistinctLemmas.{has_made, has_of}
 use Rattle.gate_found_rows.proofs.JoinLemmas.{keyed_told, listed_told}
-use Rattle.gate_schema.proofs.ListedQueries.{told_behind}
+use Rattle.gate_schema.proofs.RowLemmas.{told_behind}
 use Rattle.gate_item_queries.proofs.NextReads.{capped}
 use Rattle.gate_build_queries.proofs.PlanReads.{places_rise}
 use Rattle.gate_build_queries.proofs.PlanTexts.{marked_asks, marked_of, marked_sql, planned_asks, planned_names}

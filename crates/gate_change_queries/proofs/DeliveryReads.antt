@@ -27,7 +27,8 @@ use Rattle.gate_found_rows.specs.Finds.{Finds}
 use Rattle.gate_found_rows.specs.Reads.{IsStoredIn}
 use Rattle.gate_found_rows.specs.Shown.{kept_shown}
 use Rattle.gate_found_rows.specs.Whole.{IsWhole}
-use Rattle.gate_schema.proofs.ListedQueries.{listed_few, told_behind}
+use Rattle.gate_schema.proofs.ListedQueries.{listed_few}
+use Rattle.gate_schema.proofs.RowLemmas.{told_behind}
 use Rattle.gate_found_rows.proofs.ReadLemmas.{answers}
 use Rattle.gate_found_rows.proofs.ShownLemmas.{few_pass, pass_filter}
 

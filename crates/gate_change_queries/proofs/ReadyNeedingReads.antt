@@ -38,7 +38,7 @@ use Rattle.gate_found_rows.specs.Shown.{number_shown, ready_shown}
 use Rattle.gate_found_rows.specs.Whole.{IsWhole, is_change_row_in_form}
 use Rattle.gate_found_rows.proofs.DistinctLemmas.{has_in, has_of, has_permuted, shows_once}
 use Rattle.gate_found_rows.proofs.JoinLemmas.{keyed_told, listed_told, over_tables}
-use Rattle.gate_schema.proofs.ListedQueries.{told_behind}
+use Rattle.gate_schema.proofs.RowLemmas.{told_behind}
 use Rattle.gate_found_rows.proofs.NeedLemmas.{need_of, needs_by}
 use Rattle.gate_found_rows.proofs.ReadLemmas.{answers}
 use Rattle.gate_change_queries.proofs.ReadyReads.{approval_of, list_is_ready, null_is_not_above, ready_in_form}

@@ -56,6 +56,7 @@ use Rattle.gate_settling.proofs.ListLemmas.{each_same}
 use Rattle.gate_book_trait.proofs.ReadLemmas.{length_reports}
 use Rattle.gate_types.specs.Limits.{most_items}
 use Rattle.gate_types.specs.Rising.{In}
+use Rattle.gate_types.proofs.PlainLemmas.{or_true}
 
 -- ---- a queue that items may have left
 
@@ -369,10 +370,6 @@ not_full s name (edit.StopBuild b) none h = absurd (true≢false (sym h))
 not_full s name (edit.SetWindow q w) none h = absurd (true≢false (sym h))
 not_full s name (edit.SetCounter k n) none h = absurd (true≢false (sym h))
 not_full s name (edit.Keep k) none h = absurd (true≢false (sym h))
-
-or_true : (b : Bool) → (b || true) ≡ true
-or_true true = refl
-or_true false = refl
 
 -- the same of the closed change that stands for an unknown one
 landed_of : (m : ℕ) (o : Option Change) → has_landed o ≡

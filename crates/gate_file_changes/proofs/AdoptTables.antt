@@ -22,7 +22,7 @@ use Rattle.gate_schema.specs.Schema.{gate_schema, meta_table_at, queue_table_at}
 use Rattle.gate_schema.proofs.ChangeLemmas.{changed, listed_changed, numbered_changed, updated_rows}
 use Rattle.gate_schema.proofs.DeleteLemmas.{deleted_ids, leaves_others}
 use Rattle.gate_schema.proofs.QueryLemmas.{over_table, passes, shows_few}
-use Rattle.gate_schema.proofs.RowLemmas.{int_cast, behind, few_found, out, renewed, written_update}
+use Rattle.gate_schema.proofs.RowLemmas.{int_cast, told_behind, few_found, out, renewed, written_update}
 use Rattle.gate_schema.proofs.Statements.{Is, key_is, no_limit}
 use Rattle.gate_schema.proofs.TableLemmas.{Others, others_stay, with_queues}
 use Rattle.gate_schema.proofs.ValueLemmas.{equal_texts}
@@ -113,7 +113,7 @@ sets_settings text old new count ready h =
     let db = overlay old.now.trees [] in
     let test = passes (key_is 1 ∷ []) params in
     let new_row = renewed (meta_table_at 0) set_settings_terms params old.now.trees in
-    let same : (v : Row) (x : List ℕ × List ℕ) → drop 1 v ≡ pair_columns x → test v ≡ bytes_eq x.0 key = λ v x is. behind test v _ _ _ (λ y. rw equal_texts (and_true (bytes_eq x.0 key))) is in
+    let same : (v : Row) (x : List ℕ × List ℕ) → drop 1 v ≡ pair_columns x → test v ≡ bytes_eq x.0 key = λ v x is. told_behind test v _ _ _ (λ y. rw equal_texts (and_true (bytes_eq x.0 key))) is in
     let made : (v : Row) (x : List ℕ × List ℕ) → drop 1 v ≡ pair_columns x → drop 1 (new_row v) ≡ pair_columns (x.0, text) = λ v x is. made_text text x old.now.trees v is in (
       record { schema_is = e.2.schema_is; inside = h.1.mode },
       λ b stands.

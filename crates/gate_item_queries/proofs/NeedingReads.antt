@@ -31,7 +31,7 @@ use Rattle.gate_item_queries.proofs.ItemTexts.{item_names, needing_is, needing_o
 use Rattle.gate_item_queries.proofs.ItemTexts.{needing_terms, needing_test}
 use Rattle.gate_found_rows.proofs.JoinLemmas.{keyed_told, listed_told, over_tables, plus_text}
 use Rattle.gate_found_rows.proofs.ListFacts.{all_so}
-use Rattle.gate_schema.proofs.ListedQueries.{told_behind}
+use Rattle.gate_schema.proofs.RowLemmas.{told_behind}
 use Rattle.gate_item_queries.proofs.NextReads.{above_capped, capped, low}
 use Rattle.gate_found_rows.proofs.NeedLemmas.{need_of, needs_by}
 use Rattle.gate_found_rows.proofs.ReadLemmas.{answers}

@@ -33,7 +33,7 @@ use Rattle.gate_schema.specs.Rows.{IsFixed, IsKeyed, IsListed, Stored, first_ver
 use Rattle.gate_schema.specs.Schema.{gate_schema, item_fast_table_text, item_job_table_text, meta_table_at, schema_with}
 use Rattle.gate_schema.proofs.ChangeLemmas.{changed, listed_changed, numbered_changed, updated_rows}
 use Rattle.gate_schema.proofs.QueryLemmas.{over_table, passes, shows_few}
-use Rattle.gate_schema.proofs.RowLemmas.{behind, few_found, int_cast, out, renewed, written_update}
+use Rattle.gate_schema.proofs.RowLemmas.{told_behind, few_found, int_cast, out, renewed, written_update}
 use Rattle.gate_schema.proofs.Statements.{Is, no_limit}
 use Rattle.gate_schema.proofs.TableLemmas.{apart}
 use Rattle.gate_schema.proofs.TextLemmas.{item_fast_makes, item_job_makes}
@@ -124,7 +124,7 @@ sets_version b old new count had h =
     let test = passes of_version [] in
     let new_row = renewed (meta_table_at 0) set_version_terms [] old.now.trees in
     let p : (List ℕ × List ℕ) → Bool = λ x. bytes_eq x.0 (codes "schema") in
-    let same : (v : Row) (x : List ℕ × List ℕ) → drop 1 v ≡ pair_columns x → test v ≡ bytes_eq x.0 (codes "schema") = λ v x is. behind test v _ _ _ (λ y. rw equal_texts (and_true (bytes_eq x.0 (codes "schema")))) is in
+    let same : (v : Row) (x : List ℕ × List ℕ) → drop 1 v ≡ pair_columns x → test v ≡ bytes_eq x.0 (codes "schema") = λ v x is. told_behind test v _ _ _ (λ y. rw equal_texts (and_true (bytes_eq x.0 (codes "schema")))) is in
     let made : (v : Row) (x : List ℕ × List ℕ) → drop 1 v ≡ pair_columns x → drop 1 (new_row v) ≡ pair_columns (x.0, schema_version) = λ v x is. made_version x old.now.trees v is in
     let few : length (filter (λ (x : List ℕ × List ℕ). bytes_eq x.0 (codes "schema")) (meta_pairs first_version b.settings)) ≤ 1 = omega arith in
     let short : length (filter test (old.now.trees 0)) ≤ 1 =

@@ -17,10 +17,10 @@ use Rattle.gate_types.specs.Rebase.{with_live}
 use Rattle.gate_types.specs.Sweep.{Judged, judge, judged_after, next_staying, next_window, verdict_of, goes, report_on}
 use Rattle.gate_types.specs.Sweep.{without_runs}
 use Rattle.gate_types.specs.Rising.{RisesFrom}
+use Rattle.gate_types.proofs.PlainLemmas.{or_false}
 use Rattle.gate_queue_rules.specs.Settled.{verdicts}
 use Rattle.gate_queue.specs.Laws.{Scan, swept_at_once, one_taken_out, one_out, OneSweepIsOneByOne}
 use Rattle.gate_queue_rules.proofs.Ordered.{rises, ahead_rise}
-use Rattle.gate_queue_rules.proofs.Builds.{or_false}
 use Rattle.gate_laws.proofs.Alike.{verdict_alike}
 use Rattle.gate_laws.proofs.StoppedRuns.{stopped_alike}
 use Rattle.gate_laws.proofs.Stays.{Among, among_next, goes_failing, at_place, stayers}

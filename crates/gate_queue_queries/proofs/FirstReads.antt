@@ -43,7 +43,8 @@ use Rattle.gate_found_rows.specs.Finds.{Finds, IsPlainQuery, Stays}
 use Rattle.gate_queue_queries.specs.First.{HoldsLandings, IsProjectOf, ShowsFirst, first_schema, pair_shown}
 use Rattle.gate_found_rows.specs.Shown.{number_shown}
 use Rattle.gate_found_rows.proofs.KeyedReads.{finds_few, finds_rising, one_at, rises}
-use Rattle.gate_schema.proofs.ListedQueries.{kept_shown, told_behind}
+use Rattle.gate_schema.proofs.ListedQueries.{kept_shown}
+use Rattle.gate_schema.proofs.RowLemmas.{told_behind}
 
 -- ---- a text as a query of schema 1
 

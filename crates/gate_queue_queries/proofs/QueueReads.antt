@@ -31,7 +31,8 @@ use Rattle.gate_queue_queries.proofs.CountReads.{counted, counts}
 use Rattle.gate_found_rows.specs.Shown.{number_shown}
 use Rattle.gate_found_rows.proofs.GreatestLemmas.{ShowGreatest}
 use Rattle.gate_found_rows.proofs.ListFacts.{filter_in}
-use Rattle.gate_schema.proofs.ListedQueries.{listed_in_turn, told_behind}
+use Rattle.gate_schema.proofs.ListedQueries.{listed_in_turn}
+use Rattle.gate_schema.proofs.RowLemmas.{told_behind}
 use Rattle.gate_found_rows.proofs.ListedReads.{listed_greatest}
 use Rattle.gate_queue_queries.proofs.QueueTexts.{before_asks, before_query, before_sql, before_test, count_asks}
 use Rattle.gate_queue_queries.proofs.QueueTexts.{count_query, count_sql, landing_asks, landing_query, landing_sql}

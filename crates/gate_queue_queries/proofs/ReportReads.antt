@@ -33,7 +33,8 @@ use Rattle.gate_queue_queries.specs.History.{HoldsReports, history_sql, report_s
 use Rattle.gate_found_rows.specs.Reads.{IsStoredIn}
 use Rattle.gate_found_rows.specs.Shown.{number_shown}
 use Rattle.gate_found_rows.proofs.KeyedReads.{rises}
-use Rattle.gate_schema.proofs.ListedQueries.{kept_shown, told_behind}
+use Rattle.gate_schema.proofs.ListedQueries.{kept_shown}
+use Rattle.gate_schema.proofs.RowLemmas.{told_behind}
 use Rattle.gate_found_rows.proofs.ReadLemmas.{answers}
 
 abbrev pub report_terms : List Term

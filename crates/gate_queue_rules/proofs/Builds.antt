@@ -19,6 +19,7 @@ use Rattle.gate_types.specs.Rebase.{with_live, stays_live}
 use Rattle.gate_types.specs.Sweep.{judge, judged_after, verdict_of, next_staying, goes, without_runs}
 use Rattle.gate_types.specs.Rows.{row_of, edited_builds, change_build}
 use Rattle.gate_types.specs.Rising.{RisesFrom}
+use Rattle.gate_types.proofs.PlainLemmas.{or_false}
 use Rattle.gate_queue_rules.specs.Edits.{stops, stop_edits, item_edits, edits_at, next_reports}
 use Rattle.gate_queue_rules.proofs.Ordered.{build_number}
 use Rattle.gate_queue_rules.proofs.Folds.{edits_along}
@@ -37,10 +38,6 @@ cond_same false x = refl
 pub or_assoc : (x y z : Bool) → (x || y) || z ≡ x || (y || z)
 or_assoc true y z = refl
 or_assoc false y z = refl
-
-pub or_false : (x : Bool) → x || false ≡ x
-or_false true = refl
-or_false false = refl
 
 again : (t : Bool) (b : Build) (n : ℕ) → cond ((cond t (stopped b) b).number == n) (stopped (cond t (stopped b) b)) (cond t (stopped b) b) ≡ cond (t || b.number == n) (stopped b) b
 again true b n = cond_same (b.number == n) (stopped b)

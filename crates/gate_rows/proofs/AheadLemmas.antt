@@ -4,6 +4,7 @@ use Rattle.std.proofs.Common.{Bool, true, false, cond, refl, sym, ap, ◌∙◌,
 use mathlib.Core.List.{append_assoc}
 use Rattle.std.proofs.lemmas.Bool.Decides.{nat_tests}
 use Rattle.gate_types.specs.declared.records.Entry.{Entry}
+use Rattle.gate_types.proofs.PlainLemmas.{or_false, or_true}
 use Rattle.gate_schema.specs.AheadText.{entry_text, entries_text, comma_if}
 
 -- what stands before all entries but the first is a comma
@@ -12,14 +13,6 @@ comma_but true = refl
 comma_but false = refl
 
 -- one more entry is written
-or_true : (b : Bool) → (b || true) ≡ true
-or_true true = refl
-or_true false = refl
-
-or_false : (b : Bool) → (b || false) ≡ b
-or_false true = refl
-or_false false = refl
-
 entries_push : (later : Bool) (i : ℕ) (es : List Entry) (none : Entry) → i < length es
     → entries_text later (take i es) ++ (comma_if (later || not (eqb i 0)) ++ entry_text (get_or es i none)) ≡ entries_text later (take (suc i) es)
 entries_push later i [] none within = absurd (omega arith)

@@ -26,7 +26,7 @@ use Rattle.gate_schema.specs.Rows.{AreNamed, IsListed, IsNumbered, JobRow, Queue
 use Rattle.gate_schema.specs.Rows.{Stands, Stored, job_columns, landing_columns, queue_columns, report_columns}
 use Rattle.gate_schema.specs.Schema.{gate_schema, item_job_table_at, landing_table_at, queue_table_at, report_table_at}
 use Rattle.gate_schema.proofs.DeleteLemmas.{is_its}
-use Rattle.gate_schema.proofs.RowLemmas.{behind}
+use Rattle.gate_schema.proofs.RowLemmas.{told_behind}
 use Rattle.gate_schema.proofs.ValueLemmas.{equal_numbers, equal_texts}
 use Rattle.gate_rows.proofs.ItemMatches.{like}
 
@@ -87,8 +87,8 @@ same_queue p q = same_name p.name q.name
 queues_agree : (u v : Row) (p q : QueueRow) → drop 1 u ≡ queue_columns p → drop 1 v ≡ queue_columns q → agree plain (1 ∷ []) u (1 ∷ []) v ≡ same_queue p q
 unfolding first_key
 queues_agree u v p q is its =
-    behind (λ u. agree plain (1 ∷ []) u (1 ∷ []) v) u _ _ _
-    (λ w. behind (λ v. agree plain (1 ∷ []) (w ∷ queue_columns p) (1 ∷ []) v) v _ _ _ (λ z. and_true _ ∙ equal_texts p.name q.name) its) is
+    told_behind (λ u. agree plain (1 ∷ []) u (1 ∷ []) v) u _ _ _
+    (λ w. told_behind (λ v. agree plain (1 ∷ []) (w ∷ queue_columns p) (1 ∷ []) v) v _ _ _ (λ z. and_true _ ∙ equal_texts p.name q.name) its) is
 
 -- no two rows of queues have one key
 queues_clear : (db : Trees) → IsSound gate_schema db → AllByRecursion (λ r. clashes plain (1 ∷ []) (db 4) r ≡ false) (db 4)
@@ -144,8 +144,8 @@ module _ {X : Type 0} (name : X → List ℕ) (place : X → ℕ) (rest : X → 
   places_agree : (u v : Row) (x y : X) → drop 1 u ≡ placed_columns x → drop 1 v ≡ placed_columns y → agree plain (1 ∷ 2 ∷ []) u (1 ∷ 2 ∷ []) v ≡ same_place x y
   unfolding first_key
   places_agree u v x y is its =
-      behind (λ u. agree plain (1 ∷ 2 ∷ []) u (1 ∷ 2 ∷ []) v) u _ _ _
-      (λ w. behind (λ v. agree plain (1 ∷ 2 ∷ []) (w ∷ placed_columns x) (1 ∷ 2 ∷ []) v) v _ _ _
+      told_behind (λ u. agree plain (1 ∷ 2 ∷ []) u (1 ∷ 2 ∷ []) v) u _ _ _
+      (λ w. told_behind (λ v. agree plain (1 ∷ 2 ∷ []) (w ∷ placed_columns x) (1 ∷ 2 ∷ []) v) v _ _ _
       (λ z. ap₂ ◌&&◌ (equal_texts (name x) (name y)) (and_true _ ∙ equal_numbers (place x) (place y))) its) is
 
   -- the place of a record that was added was free
@@ -188,8 +188,8 @@ same_job x y = eqb x.serial y.serial && eqb x.place y.place
 jobs_agree : (u v : Row) (x y : JobRow) → drop 1 u ≡ job_columns x → drop 1 v ≡ job_columns y → agree plain (1 ∷ 2 ∷ []) u (1 ∷ 2 ∷ []) v ≡ same_job x y
 unfolding first_key
 jobs_agree u v x y is its =
-    behind (λ u. agree plain (1 ∷ 2 ∷ []) u (1 ∷ 2 ∷ []) v) u _ _ _
-    (λ w. behind (λ v. agree plain (1 ∷ 2 ∷ []) (w ∷ job_columns x) (1 ∷ 2 ∷ []) v) v _ _ _
+    told_behind (λ u. agree plain (1 ∷ 2 ∷ []) u (1 ∷ 2 ∷ []) v) u _ _ _
+    (λ w. told_behind (λ v. agree plain (1 ∷ 2 ∷ []) (w ∷ job_columns x) (1 ∷ 2 ∷ []) v) v _ _ _
     (λ z. ap₂ ◌&&◌ (equal_numbers x.serial y.serial) (and_true _ ∙ equal_numbers x.place y.place)) its) is
 
 -- no two rows of jobs have one key

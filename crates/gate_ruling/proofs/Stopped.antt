@@ -16,6 +16,7 @@ use Rattle.gate_types.specs.Rows.{item_of, change_build}
 use Rattle.gate_types.specs.Tables.{edited_build_rows}
 use Rattle.gate_types.specs.Lawful.{IsSound}
 use Rattle.gate_types.specs.Rising.{In}
+use Rattle.gate_types.proofs.PlainLemmas.{or_false}
 use Rattle.gate_book_trait.specs.Reads.{live_builds}
 use Rattle.gate_laws.proofs.Members.{map_same, from_filter, to_filter, any_to, none_to}
 use Rattle.gate_laws.proofs.Alone.{change_alone}
@@ -23,7 +24,7 @@ use Rattle.gate_laws.proofs.EndedBuild.{one_build}
 use Rattle.gate_laws.proofs.LeaveIsSound.{leaving}
 use Rattle.gate_ruling.specs.Leaving.{stop_of}
 use Rattle.gate_ruling.proofs.Stored.{Stored}
-use Rattle.gate_queue_rules.proofs.Builds.{or_assoc, or_false}
+use Rattle.gate_queue_rules.proofs.Builds.{or_assoc}
 
 -- ---- builds stopped one after another
 

@@ -26,7 +26,7 @@ use Rattle.gate_schema.specs.Schema.{gate_schema, counter_table_at}
 use Rattle.gate_types.specs.Words.{counter_word}
 use Rattle.gate_schema.proofs.ChangeLemmas.{changed, listed_changed, numbered_changed, updated_rows}
 use Rattle.gate_schema.proofs.QueryLemmas.{over_table, passes, shows_few}
-use Rattle.gate_schema.proofs.RowLemmas.{cast_int, int_cast, behind, few_found, out, renewed, written_update}
+use Rattle.gate_schema.proofs.RowLemmas.{cast_int, int_cast, told_behind, few_found, out, renewed, written_update}
 use Rattle.gate_schema.proofs.Statements.{Is, key_is, no_limit}
 use Rattle.gate_schema.proofs.TableLemmas.{others_stay, with_counters}
 use Rattle.gate_schema.proofs.ValueLemmas.{equal_texts}
@@ -62,7 +62,7 @@ sets_counter k n old new count ready h =
     let test = passes (key_is 1 ∷ []) params in
     let new_row = renewed (counter_table_at 2) set_counter_terms params old.now.trees in
     let p : (List ℕ × ℕ) → Bool = λ x. bytes_eq x.0 (counter_word k) in
-    let same : (v : Row) (x : List ℕ × ℕ) → drop 1 v ≡ pair_columns x → test v ≡ bytes_eq x.0 (counter_word k) = λ v x is. behind test v _ _ _ (λ y. rw equal_texts (and_true (bytes_eq x.0 (counter_word k)))) is in
+    let same : (v : Row) (x : List ℕ × ℕ) → drop 1 v ≡ pair_columns x → test v ≡ bytes_eq x.0 (counter_word k) = λ v x is. told_behind test v _ _ _ (λ y. rw equal_texts (and_true (bytes_eq x.0 (counter_word k)))) is in
     let made : (v : Row) (x : List ℕ × ℕ) → drop 1 v ≡ pair_columns x → drop 1 (new_row v) ≡ pair_columns (x.0, n) = λ v x is. made_count k n x old.now.trees v is in
     record {
       ready = record { schema_is = e.2.schema_is; inside = h.1.mode };

@@ -24,7 +24,7 @@ use Rattle.gate_schema.specs.Schema.{gate_schema, item_job_table_at}
 use Rattle.gate_schema.proofs.ChangeLemmas.{listed_without, numbered_filter}
 use Rattle.gate_schema.proofs.DeleteLemmas.{deleted_ids, leaves_others}
 use Rattle.gate_schema.proofs.QueryLemmas.{over_table, passes}
-use Rattle.gate_schema.proofs.RowLemmas.{cast_int, cast_null, behind}
+use Rattle.gate_schema.proofs.RowLemmas.{cast_int, cast_null, told_behind}
 use Rattle.gate_schema.proofs.Statements.{Is, key_is, no_limit}
 use Rattle.gate_schema.proofs.TableLemmas.{others_stay, with_jobs, listed_next}
 use Rattle.gate_schema.proofs.ValueLemmas.{equal_numbers}
@@ -81,7 +81,7 @@ drops_jobs n old new count ready h =
     let e = deletes gate_schema (λ _ _ _. refl) old new ready.schema_is 10 (item_job_table_at 26) refl (statement_of drop_jobs_sql (understood gate_schema drop_jobs_sql)) params count program w in
     let db = overlay old.now.trees [] in
     let test = passes (key_is 1 ∷ []) params in
-    let same : (v : Row) (x : JobRow) → drop 1 v ≡ job_columns x → test v ≡ eqb x.serial n = λ v x is. behind test v _ _ _ (λ w. rw equal_numbers (and_true (eqb x.serial n))) is in
+    let same : (v : Row) (x : JobRow) → drop 1 v ≡ job_columns x → test v ≡ eqb x.serial n = λ v x is. told_behind test v _ _ _ (λ w. rw equal_numbers (and_true (eqb x.serial n))) is in
     record {
       ready = record { schema_is = e.2.schema_is; inside = h.1.mode };
       named = λ b named. named;

@@ -5,18 +5,12 @@ use Rattle.sqlite.specs.Order.{Row}
 use Rattle.sqlite.specs.Query.{IsAnswer, output, output_cmp, page}
 use Rattle.sqlite.specs.Term.{Term, eval_all}
 use Rattle.sqlite.specs.Tree.{Trees}
-use Rattle.sqlite.specs.declared.types.Value.{Value}
 use Rattle.sqlite_keyed.proofs.ListLemmas.{ascending-filter, ascending-map, ascending_weaker}
 use Rattle.sqlite_trees.specs.Tree.{IsAscending}
 use Rattle.gate_schema.specs.Rows.{IsListed}
 use Rattle.gate_schema.proofs.QueryLemmas.{over_table, passes, shows_few, shows_in_order}
 use Rattle.gate_schema.proofs.RowLemmas.{few_found}
 use Rattle.gate_schema.proofs.Statements.{rising}
-
--- what columns tell, of a row whose rowid tells nothing
-pub told_behind : {Y : Type 0} (f : Row → Y) (v : Row) (c : Value) (cs : Row) (y : Y) → ((w : Value) → f (w ∷ c ∷ cs) ≡ y) → drop 1 v ≡ c ∷ cs → f v ≡ y
-told_behind f [] c cs y told h = absurd cc
-told_behind f (w ∷ rest) c cs y told h = ap (λ l. f (w ∷ l)) h ∙ told w
 
 -- what is kept of rows is what is kept of records
 pub kept_shown : {X Y : Type 0} (columns : X → Row) (test : Row → Bool) (p : X → Bool) → ((v : Row) (x : X) → drop 1 v ≡ columns x → test v ≡ p x)

@@ -24,9 +24,9 @@ use Rattle.gate_schema.specs.Schema.{gate_schema, need_table_at}
 use Rattle.gate_schema.specs.Shown.{need_shown}
 use Rattle.gate_schema.proofs.ChangeLemmas.{listed_without, numbered_filter}
 use Rattle.gate_schema.proofs.DeleteLemmas.{deleted_ids, leaves_others}
-use Rattle.gate_schema.proofs.ListedQueries.{listed_in_turn, told_behind}
+use Rattle.gate_schema.proofs.ListedQueries.{listed_in_turn}
 use Rattle.gate_schema.proofs.QueryLemmas.{over_table, passes}
-use Rattle.gate_schema.proofs.RowLemmas.{cast_int, cast_null, behind}
+use Rattle.gate_schema.proofs.RowLemmas.{cast_int, cast_null, told_behind}
 use Rattle.gate_schema.proofs.Statements.{Asks, Is, key_is, no_limit, rising}
 use Rattle.gate_schema.proofs.TableLemmas.{others_stay, with_needs, listed_next}
 use Rattle.gate_schema.proofs.ValueLemmas.{equal_numbers}
@@ -83,7 +83,7 @@ drops_needs n old new count ready h =
     let e = deletes gate_schema (λ _ _ _. refl) old new ready.schema_is 4 (need_table_at 9) refl (statement_of drop_needs_sql (understood gate_schema drop_needs_sql)) params count program w in
     let db = overlay old.now.trees [] in
     let test = passes (key_is 1 ∷ []) params in
-    let same : (v : Row) (x : NeedRow) → drop 1 v ≡ need_columns x → test v ≡ eqb x.change n = λ v x is. behind test v _ _ _ (λ w. rw equal_numbers (and_true (eqb x.change n))) is in
+    let same : (v : Row) (x : NeedRow) → drop 1 v ≡ need_columns x → test v ≡ eqb x.change n = λ v x is. told_behind test v _ _ _ (λ w. rw equal_numbers (and_true (eqb x.change n))) is in
     record {
       ready = record { schema_is = e.2.schema_is; inside = h.1.mode };
       named = λ b named. named;

@@ -23,7 +23,7 @@ use Rattle.gate_schema.specs.Rows.{Stored, QueueRow, AreNamed, IsReady, Changes,
 use Rattle.gate_schema.specs.Schema.{gate_schema, queue_table_at}
 use Rattle.gate_schema.proofs.ChangeLemmas.{changed, listed_changed, numbered_changed, updated_rows}
 use Rattle.gate_schema.proofs.QueryLemmas.{over_table, passes, shows_few}
-use Rattle.gate_schema.proofs.RowLemmas.{cast_int, int_cast, behind, few_found, out, renewed, written_update}
+use Rattle.gate_schema.proofs.RowLemmas.{cast_int, int_cast, told_behind, few_found, out, renewed, written_update}
 use Rattle.gate_schema.proofs.Statements.{Is, key_is, no_limit}
 use Rattle.gate_schema.proofs.TableLemmas.{others_stay, with_queues}
 use Rattle.gate_schema.proofs.ValueLemmas.{equal_texts}
@@ -69,7 +69,7 @@ sets_window name win old new count ready h =
     let db = overlay old.now.trees [] in
     let test = passes (key_is 1 ∷ []) params in
     let new_row = renewed (queue_table_at 4) set_window_terms params old.now.trees in
-    let same : (v : Row) (q : QueueRow) → drop 1 v ≡ queue_columns q → test v ≡ bytes_eq q.name name = λ v q is. behind test v _ _ _ (λ x. rw equal_texts (and_true (bytes_eq q.name name))) is in
+    let same : (v : Row) (q : QueueRow) → drop 1 v ≡ queue_columns q → test v ≡ bytes_eq q.name name = λ v q is. told_behind test v _ _ _ (λ x. rw equal_texts (and_true (bytes_eq q.name name))) is in
     let made : (v : Row) (q : QueueRow) → drop 1 v ≡ queue_columns q → drop 1 (new_row v) ≡ queue_columns (record q { window = win }) = λ v q is. made_window name win q old.now.trees v is in
     record {
       ready = record { schema_is = e.2.schema_is; inside = h.1.mode };

@@ -44,10 +44,10 @@ pub bound_or_null : (o : Option ℕ) → bound_value (number_or_null o) ≡ numb
 bound_or_null None = refl
 bound_or_null (Some n) = refl
 
--- a test of columns, of a row whose rowid tells nothing
-pub behind : (test : Row → Bool) (v : Row) (c : Value) (cs : Row) (q : Bool) → ((w : Value) → test (w ∷ c ∷ cs) ≡ q) → drop 1 v ≡ c ∷ cs → test v ≡ q
-behind test [] c cs q same h = absurd cc
-behind test (w ∷ rest) c cs q same h = ap (λ l. test (w ∷ l)) h ∙ same w
+-- what columns tell, of a row whose rowid tells nothing
+pub told_behind : {Y : Type 0} (f : Row → Y) (v : Row) (c : Value) (cs : Row) (y : Y) → ((w : Value) → f (w ∷ c ∷ cs) ≡ y) → drop 1 v ≡ c ∷ cs → f v ≡ y
+told_behind f [] c cs y told h = absurd cc
+told_behind f (w ∷ rest) c cs y told h = ap (λ l. f (w ∷ l)) h ∙ told w
 
 -- as many rows as records pass
 pub few_found : {X : Type 0} (columns : X → Row) (test : Row → Bool) (p : X → Bool) → ((v : Row) (x : X) → drop 1 v ≡ columns x → test v ≡ p x) → (rs : List Row) (xs : List X) → map (drop 1) rs ≡ map columns xs

@@ -38,11 +38,12 @@ use Rattle.gate_queue_rules.proofs.Ordered.{AllBelow, rises}
 use Rattle.gate_walk.proofs.Parting.{rise_at}
 use Rattle.gate_types.specs.Once.{Content}
 use Rattle.gate_types.specs.Rising.{RisesFrom, In}
+use Rattle.gate_types.proofs.PlainLemmas.{or_false}
 use Rattle.gate_settling.specs.Touching.{Touching}
 use Rattle.gate_settling.specs.Rows.{is_out, has_landed, build_now}
 use Rattle.gate_settling.proofs.ColumnLemmas.{columns_of, columns_found}
 use Rattle.gate_settling.proofs.SeamLemmas.{no_drop}
-use Rattle.gate_settling.proofs.ListLemmas.{or_false, each_same}
+use Rattle.gate_settling.proofs.ListLemmas.{each_same}
 use Rattle.gate_settling.proofs.BuildLemmas.{live_elsewhere, live_ended}
 use Rattle.gate_settling.proofs.LeavesLemmas.{Leaves, leaves}
 

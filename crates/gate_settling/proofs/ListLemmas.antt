@@ -1,5 +1,5 @@
 -- Tests that agree, and what is found and kept by them.
-use Rattle.std.proofs.Common.{◌≡◌, ℕ, Bool, true, false, ◌&&◌, ◌||◌, cond, Some, List, [], ◌∷◌, map, inl, inr, refl}
+use Rattle.std.proofs.Common.{◌≡◌, ℕ, Bool, true, false, ◌&&◌, cond, Some, List, [], ◌∷◌, map, inl, inr, refl}
 use Rattle.std.proofs.Common.{sym, ap, ◌∙◌, subst}
 use Rattle.std.specs.Prelude.{◌==◌, filter, find}
 use Rattle.std.specs.List.{list_any}
@@ -10,10 +10,6 @@ use Rattle.gate_types.proofs.PlainLemmas.{same_truth}
 use Rattle.gate_types.specs.Rising.{In}
 
 -- ---- tests
-
-pub or_false : (b : Bool) → b || false ≡ b
-or_false true = refl
-or_false false = refl
 
 pub find_same : {X : Type 0} (p q : X → Bool) (xs : List X) → ((x : X) → In x xs → p x ≡ q x) → find p xs ≡ find q xs
 find_same p q [] h = refl

@@ -9,13 +9,13 @@ use Rattle.std.proofs.lemmas.List.Folds.{list_any-append}
 use Rattle.gate_types.specs.declared.records.Item.{Item as ItemRow}
 use Rattle.gate_types.specs.State.{State, change_of}
 use Rattle.gate_types.specs.Rising.{RisesFrom, In}
-use Rattle.gate_types.proofs.PlainLemmas.{and_false, filter_twice}
+use Rattle.gate_types.proofs.PlainLemmas.{and_false, filter_twice, or_false}
 use Rattle.gate_walk.specs.Walk.{Seen, Walk, behind_visit, verdict_by}
 use Rattle.gate_book_trait.specs.Reads.{first_above, items_needing}
 use Rattle.gate_laws.proofs.Members.{from_filter, filter_same, found}
 use Rattle.gate_queue_rules.proofs.Ordered.{row_serial}
 use Rattle.gate_settling.specs.Rows.{is_needing, first_needing_any, needing_any, merged, joined_behind, AreKept}
-use Rattle.gate_settling.proofs.ListLemmas.{or_false, find_same, find_kept}
+use Rattle.gate_settling.proofs.ListLemmas.{find_same, find_kept}
 use Rattle.gate_settling.proofs.WantedLemmas.{low_in}
 
 -- ---- rows of two lists

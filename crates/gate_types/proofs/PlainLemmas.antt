@@ -9,6 +9,14 @@ pub and_false : (b : Bool) → b && false ≡ false
 and_false true = refl
 and_false false = refl
 
+pub or_true : (b : Bool) → b || true ≡ true
+or_true true = refl
+or_true false = refl
+
+pub or_false : (b : Bool) → b || false ≡ b
+or_false true = refl
+or_false false = refl
+
 pub same_truth : (a b : Bool) → (a ≡ true → b ≡ true) → (b ≡ true → a ≡ true) → a ≡ b
 same_truth true b f g = sym (f refl)
 same_truth false true f g = g refl

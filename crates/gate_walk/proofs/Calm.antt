@@ -26,6 +26,7 @@ use Rattle.gate_types.specs.Sweep.{Judged, judge, judged, judged_after, verdict_
 use Rattle.gate_types.specs.Rows.{row_of}
 use Rattle.gate_types.specs.Lawful.{IsSound, is_sound_item, is_sound_build, is_of_item, waiting_changes, landed_changes}
 use Rattle.gate_types.specs.Rising.{RisesFrom, In}
+use Rattle.gate_types.proofs.PlainLemmas.{or_false}
 use Rattle.gate_walk.specs.Rescan.{live_builds_are_wanted, standing_in, IsCalm}
 use Rattle.gate_laws.proofs.Members.{every, all_from, any_from, to_map, to_flat}
 use Rattle.gate_laws.proofs.ContentForms.{is_none}
@@ -33,7 +34,6 @@ use Rattle.gate_laws.proofs.LiveBuildsCount.{place_serial}
 use Rattle.gate_laws.proofs.RecordedChange.{open_unlanded}
 use Rattle.gate_walk.proofs.Once.{Once, once, once_left, once_right}
 use Rattle.gate_queue_rules.proofs.Ordered.{rises}
-use Rattle.gate_queue_rules.proofs.Builds.{or_false}
 use Rattle.gate_walk.proofs.Slots.{is_live_of, wanted_all_count, wanted_all_ended}
 use Rattle.gate_walk.proofs.Resets.{Quiet, NotLanded}
 use Rattle.gate_walk.proofs.Moved.{Elsewhere, Others, IsOther}

@@ -19,9 +19,9 @@ use Rattle.gate_types.specs.Slot.{is_running, is_cut}
 use Rattle.gate_types.specs.Standing.{is_failing, are_finished, ahead_of}
 use Rattle.gate_types.specs.Sweep.{verdict_of}
 use Rattle.gate_types.specs.Rows.{row_of}
+use Rattle.gate_types.proofs.PlainLemmas.{or_false}
 use Rattle.gate_queue_rules.specs.Edits.{stops, stop_edits}
 use Rattle.gate_queue_rules.specs.Outcomes.{outcomes_among}
-use Rattle.gate_queue_rules.proofs.Builds.{or_false}
 use Rattle.gate_walk.specs.Walk.{SeenNeed, Seen, Mark, Carry, mark_of, is_fine, is_gone, is_blocked_by}
 use Rattle.gate_walk.specs.Walk.{are_met_without, still_counting, fails, cuts, is_done_by, verdict_by, row_by}
 use Rattle.gate_walk.specs.Walk.{row_edits, stopped_by}

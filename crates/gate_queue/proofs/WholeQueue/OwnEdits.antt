@@ -19,6 +19,7 @@ use Rattle.gate_types.specs.Slot.{is_cut}
 use Rattle.gate_types.specs.Standing.{with_ahead, next_ahead}
 use Rattle.gate_types.specs.Sweep.{verdict_of, judge, next_staying, report_of}
 use Rattle.gate_types.specs.Rows.{row_of, item_of}
+use Rattle.gate_types.proofs.PlainLemmas.{or_true}
 use Rattle.gate_queue.specs.declared.whole_queue.facts.ItemFacts.{ItemFacts}
 use Rattle.gate_queue.specs.WholeQueue.Facts.{places_by}
 use Rattle.gate_queue.specs.WholeQueue.Settles.{has_item, has_build, is_own}
@@ -33,10 +34,6 @@ IsOwn name items builds e = is_own name items builds e ≡ true
 -- each of these is
 abbrev Own : List ℕ → List ItemRow → List Build → List Edit → Type 0
 Own name items builds es = AllPass (is_own name items builds) es
-
-or_true : (t : Bool) → t || true ≡ true
-or_true true = refl
-or_true false = refl
 
 named : (name : List ℕ) (t : Bool) → t ≡ true → same_name name name && t ≡ true
 named name t h = ap (λ s. s && t) (name_itself name) ∙ h

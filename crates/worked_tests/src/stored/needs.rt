@@ -1,7 +1,6 @@
 //! The needs of a change that is put again, as the tables of a file keep them.
-use crate::chapters::goes_on_over;
 use crate::stored::files::{SETTINGS, made_under};
-use crate::stored::tables::{after, empty};
+use crate::stored::tables::{empty, has_then};
 use sqlite::{Alter, Connection};
 use std::process::Abort;
 
@@ -77,21 +76,10 @@ const STEPS: [(&str, &str); 6] = [
     (OTHERS, ROWS_OF_OTHERS),
 ];
 
-/// The gate in the file is told this, and its tables have these rows then.
-fn step<S: Alter + Drop>(
-    rt: &(impl Abort + AllocGlobal),
-    conn: Connection<S>,
-    told: &str,
-    rows: &str,
-) -> Connection<S> {
-    let conn = goes_on_over(rt, conn, SETTINGS, "needs put again", told);
-    after(rt, conn, rows)
-}
-
 fn steps<S: Alter + Drop>(rt: &(impl Abort + AllocGlobal), mut conn: Connection<S>) {
     conn = made_under(rt, conn, SETTINGS);
     for (told, rows) in STEPS {
-        conn = step(rt, conn, told, rows);
+        conn = has_then(rt, conn, SETTINGS, told, rows);
     }
 }
 

@@ -1,7 +1,6 @@
 //! What an item was admitted with, as the tables of a file keep it.
-use crate::chapters::goes_on_over;
 use crate::stored::files::made_under;
-use crate::stored::tables::{after, empty};
+use crate::stored::tables::{after, empty, has_then};
 use sqlite::{Alter, Connection};
 use std::process::Abort;
 
@@ -88,21 +87,10 @@ const STEPS: [(&str, &str); 5] = [
     (ONE_FAILED, ROWS_WITHOUT_FAILED),
 ];
 
-/// The gate in the file is told this, and its tables have these rows then.
-fn step<S: Alter + Drop>(
-    rt: &(impl Abort + AllocGlobal),
-    conn: Connection<S>,
-    told: &str,
-    rows: &str,
-) -> Connection<S> {
-    let conn = goes_on_over(rt, conn, SETTINGS, "rows of jobs", told);
-    after(rt, conn, rows)
-}
-
 fn steps<S: Alter + Drop>(rt: &(impl Abort + AllocGlobal), mut conn: Connection<S>) {
     conn = made_under(rt, conn, SETTINGS);
     for (told, rows) in STEPS {
-        conn = step(rt, conn, told, rows);
+        conn = has_then(rt, conn, SETTINGS, told, rows);
     }
     let _ = after(rt, conn, ROWS_THEN);
 }

@@ -7,6 +7,7 @@
 mod histories;
 mod openings;
 
+use crate::chapters::goes_on_over;
 use crate::claims::{holds, is};
 use crate::settings::config;
 use crate::stored::files::{SETTINGS, created_under, opened_under, outcome};
@@ -106,6 +107,18 @@ pub(crate) fn after<S: Alter + Drop>(
         conn = is_so(rt, conn, line);
     }
     conn
+}
+
+/// The gate in a file with these settings is told this, and its tables have these rows then.
+pub(crate) fn has_then<S: Alter + Drop>(
+    rt: &(impl Abort + AllocGlobal),
+    conn: Connection<S>,
+    words: &str,
+    told: &str,
+    rows: &str,
+) -> Connection<S> {
+    let conn = goes_on_over(rt, conn, words, rows, told);
+    after(rt, conn, rows)
 }
 
 /// An empty file.
