@@ -4,10 +4,11 @@
     unreferenced   names of specs and proofs that no clause and no answer leads to
     uncalled       functions that nothing calls, but for those that only prove a law
     equal          definitions with the same text but for their names, and lemmas with the same statement
+    homonyms       words that two files of specs define, but for operators
     imports        names that a file imports and doesn't use
 
 Each stands with its file and line. --only KIND lists one kind, and --count says how many there are of each. The status
-is 1 where a name is unreferenced or two are equal, and 0 otherwise.
+is 1 where a name is unreferenced, two are equal or a word has two definitions, and 0 otherwise.
 
 A clause of a .rt file, a `#[tactic(.. using(..))]` and an answer to a goal lead to the names in them, and a definition
 to those in its text; an import alone leads nowhere. Names are compared as the definitions that they are imported from,
@@ -27,7 +28,7 @@ from pathlib import Path
 from zlib import crc32
 
 TOP = Path(__file__).resolve().parents[1]
-KINDS = ("unreferenced", "uncalled", "equal", "imports")
+KINDS = ("unreferenced", "uncalled", "equal", "homonyms", "imports")
 # A name is a run of these characters, and names joined by dots are one path.
 NAME = r"[^\s(){}.;,@\"«»]+"
 WORD = re.compile(rf"(?P<field>[)}}»]\.{NAME})|(?P<path>{NAME}(?:\.{NAME})*)|(?P<mark>\S)")
@@ -48,7 +49,7 @@ SIGNS = {":", "=", "→", "×", "↦", "|", "λ", "∀", "[", "]", "_", "let", "
 PLAIN = {"ℕ", "List", "Bool", "[]", "∷"}
 # Traits of libraries, which are imported for their methods.
 TRAITS = {"BufRead", "Read", "Write", "Seek", "FromStr", "Iterator", "Hash", "Hasher", "ToSql", "Disk", "Crash",
-          "OpenListener", "OpenStream"}
+          "OpenListener", "OpenStream", "BuildHasher"}
 
 
 @dataclass(frozen=True)
@@ -283,6 +284,13 @@ class Names:
     def equal(self) -> list[str]:
         return ["\n        ".join(map(str, group)) for group in self.groups()]
 
+    def homonyms(self) -> list[str]:
+        by = defaultdict[str, list[Definition]](list)
+        for it in self.defined.values():
+            if ".specs." in it.module and "◌" not in it.name:
+                by[it.name].append(it)
+        return ["\n        ".join(map(str, words)) for words in by.values() if len(words) > 1]
+
     def imports(self) -> list[str]:
         traits = TRAITS.union(*(re.findall(r"\btrait (\w+)", source.text) for source in self.code))
         found: list[str] = []
@@ -357,7 +365,7 @@ def main(arguments: list[str], top: Path = TOP) -> int:
         print(f"{len(rows)} {kind}")
         for row in () if asked.count else rows:
             print(f"    {row}")
-    return int(bool(found.get("unreferenced") or found.get("equal")))
+    return int(any(found.get(kind) for kind in ("unreferenced", "equal", "homonyms")))
 
 
 if __name__ == "__main__":

@@ -173,6 +173,14 @@ class Listed(unittest.TestCase):
             ["crates/high/specs/Words.antt:11 is_long", "crates/high/specs/Words.antt:15 is_wide"],
             ["crates/low/proofs/Facts.antt:4 is_itself", "crates/low/proofs/Facts.antt:7 same"]])
 
+    def test_words_with_two_definitions(self) -> None:
+        self.assertEqual(self.names.homonyms(), [
+            "crates/high/specs/Words.antt:5 is_own\n        crates/low/specs/Words.antt:4 is_own"])
+        for own in ("high", "low"):
+            self.put(f"{own}/specs/Words.antt", "abbrev pub is_own : ℕ → ℕ → Bool\nis_own a b",
+                     "infixl 10 ◌=?=◌\nabbrev pub ◌=?=◌ : ℕ → ℕ → Bool\na =?= b")
+        self.assertEqual(self.names.homonyms(), [])
+
     def test_imports_that_nothing_uses(self) -> None:
         self.assertEqual(self.names.imports(), [
             "crates/low/specs/Words.antt:2 ◌+◌", "crates/low/specs/Words.antt:2 List",
@@ -181,7 +189,8 @@ class Listed(unittest.TestCase):
 
     def test_the_status_says_whether_names_can_go(self) -> None:
         for words, status, said in (
-                ([], 1, ["3 unreferenced", "1 uncalled", "3 equal", "6 imports"]), (["--only", "equal"], 1, ["3 equal"]),
+                ([], 1, ["3 unreferenced", "1 uncalled", "3 equal", "1 homonyms", "6 imports"]),
+                (["--only", "equal"], 1, ["3 equal"]), (["--only", "homonyms"], 1, ["1 homonyms"]),
                 (["--only", "uncalled"], 0, ["1 uncalled"]), (["--only", "imports"], 0, ["6 imports"])):
             with self.subTest(words), contextlib.redirect_stdout(io.StringIO()) as out:
                 self.assertEqual(names.main(["--count", *words], self.top), status)
@@ -190,3 +199,13 @@ class Listed(unittest.TestCase):
 
 if __name__ == "__main__":
     unittest.main()
+
+
+class Repository(unittest.TestCase):
+    """The names of this repository, as they are."""
+
+    def test_no_name_can_go_or_be_merged(self) -> None:
+        found = names.Names(names.TOP)
+        for kind in names.KINDS:
+            with self.subTest(kind):
+                self.assertEqual(getattr(found, kind)(), [])
