@@ -1,9 +1,9 @@
 #!/bin/sh
 # What a delivery of each kind costs as a gate ages, a queue grows or changes wait, in instructions of the processor and
 # in statements, counted by valgrind's callgrind: no clock, and so the same whatever else the machine does. CASES names
-# some of: day (a line of bench/mix.py), opening, age, length, waiting, chain, asked (what `gated get` costs), running
-# (polls while builds run); by default all. SIZES=small is a short run of each. PAGE is the bytes of a page of a file,
-# by default the program's.
+# some of: day (a line of bench/mix.py), opening, age, length, waiting, needs (changes with an unknown need), chain,
+# asked (what `gated get` costs), running (polls while builds run); by default all. SIZES=small is a short run of each.
+# PAGE is the bytes of a page of a file, by default the program's.
 set -eu
 . "$(dirname "$0")/program.sh"
 if [ -d /dev/shm ]; then
@@ -16,4 +16,4 @@ export GLIBC_TUNABLES
 work=$(mktemp -d)
 trap 'rm -rf "$work"' EXIT
 python3 -B "$top/bench/ages.py" "$program" "$settings" "$work" "${SIZES:-whole}" \
-    ${CASES:-day opening age length waiting chain asked running}
+    ${CASES:-day opening age length waiting needs chain asked running}

@@ -16,9 +16,9 @@ CHANGES = 10
 SIZES = {
     "whole": {"day": ((10, 1000, 5000, 20000), (1000, 5000, 9000, 20000)), "opening": (1000, 4000, 16000),
               "age": (100, 10000), "length": (10, 100, 990), "waiting": (0, 100, 1000), "chain": (10, 100, 1000),
-              "asked": (100, 10000), "running": (10, 100, 997)},
+              "needs": (10,), "asked": (100, 10000), "running": (10, 100, 997)},
     "small": {"day": ((10, 50, 100, 200),), "opening": (10, 20), "age": (10, 20), "length": (10, 20),
-              "waiting": (0, 10), "chain": (10, 20), "asked": (10, 20), "running": (10, 20)},
+              "waiting": (0, 10), "chain": (10, 20), "needs": (10,), "asked": (10, 20), "running": (10, 20)},
 }
 
 
@@ -216,6 +216,19 @@ def waiting(make, size):
     kinds(gate, admit(gate, 10), f"{size} waiting")
 
 
+def needs(make, size):
+    """Changes that wait for an unknown one: their approvals, then revisions that need the same, and another."""
+    gate = make()
+    changes = gate.fresh(size)
+    gate.tell([revision(change, [999999999]) for change in changes])
+    told = {}
+    told["approved"], _ = gate.count([approved(change) for change in changes])
+    for number, need, line in ((2, 999999999, "the same need"), (3, 999999998, "another need")):
+        told[line], _ = gate.count([{**revision(change, [need]), "revision": number} for change in changes])
+    for kind, cost in told.items():
+        print(f"{size} with an unknown need".ljust(28), f"{kind:13}", cost, flush=True)
+
+
 def chain(make, size):
     """Each change needs the one before; the first one fails, and all leave."""
     gate = make()
@@ -264,8 +277,8 @@ def running(make, size):
         print(f"{size} running".ljust(28), f"{name:26}", cost, flush=True)
 
 
-CASES = {"day": day, "opening": opening, "age": age, "length": length, "waiting": waiting, "chain": chain,
-         "asked": asked, "running": running}
+CASES = {"day": day, "opening": opening, "age": age, "length": length, "waiting": waiting, "needs": needs,
+         "chain": chain, "asked": asked, "running": running}
 
 
 def main(program, settings, folder, sizes, cases):
